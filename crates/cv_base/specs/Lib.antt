@@ -1,0 +1,9 @@
+pub mod EndText
+pub mod FaultText
+pub mod Picture
+pub mod PlanOf
+pub mod Points
+pub mod Regions
+pub mod Registers
+pub mod Text
+pub mod WellFormed
