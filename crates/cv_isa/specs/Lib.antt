@@ -1,0 +1,6 @@
+pub mod Bits
+pub mod ByFields
+pub mod DecodeTable
+pub mod Encoding
+pub mod Instruction
+pub mod Uses

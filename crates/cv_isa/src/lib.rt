@@ -1,0 +1,18 @@
+//! RV32I instructions: what a word means, the word of an instruction, and what an instruction uses.
+//!
+//! The source is the RISC-V Unprivileged ISA manual, "RV32I Base Integer Instruction Set", and its
+//! instruction listing "RV32I Base Instruction Set". Nothing here takes memory.
+#![tactic(auto)]
+
+mod decoder;
+mod instruction;
+mod operation;
+mod registers;
+mod uses;
+mod words;
+
+pub use decoder::decode;
+pub use instruction::Inst;
+pub use operation::{Format, Op};
+pub use registers::RegSet;
+pub use uses::{LinkKind, is_transfer, link_kind, reads};
