@@ -3,19 +3,27 @@
 #![tactic(auto)]
 
 mod address;
+mod cases;
 mod ends;
+mod entries;
 mod image;
+mod invariants;
 mod items;
 mod memory;
+mod patches;
 mod plan;
 mod registers;
 mod text;
 
 pub use address::Address;
+pub use cases::{Case, Change, Class, Repair};
 pub use ends::{CrashCause, End, FailureId, FailureKind};
+pub use entries::{Adopted, Entry, FiredRow, Observation, TallyRow};
 pub use image::{Image, ImageFail, ImageFault, Region, Segment, TextRange};
+pub use invariants::Invariant;
 pub use items::Items;
 pub use memory::NoMemory;
+pub use patches::{Action, Patch, PatchTable};
 pub use plan::{Mode, Plan, Round};
 pub use registers::Regs;
 pub use text::Text;

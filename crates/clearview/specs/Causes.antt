@@ -1,0 +1,35 @@
+-- How a call ends, against what it has to come to (docs/FORMATS.md, "Causes and statuses").
+use Rattle.std.specs.Prelude.{◌≡◌, ℕ, List, Option, Result, Ok, Err, ◌⊎◌}
+use Rattle.cv_edge.specs.Edge.{Appends, AppendsPrefix, Keeps}
+use Rattle.clearview.specs.declared.cause.Cause.{Cause}
+use Rattle.clearview.specs.declared.cause.Cause.TheVariants as cause
+use Rattle.clearview.specs.Verdict.{Verdict}
+
+abbrev pub status_of : Cause → ℕ
+status_of cause.Done = 0
+status_of cause.Usage = 2
+status_of cause.FileMissing = 12
+status_of cause.JobLong = 3
+status_of (cause.JobRefused f) = 3
+status_of cause.ImageLong = 4
+status_of (cause.ImageRefused f) = 4
+status_of cause.NoMemory = 5
+status_of cause.StoreFault = 6
+status_of cause.SinkFault = 7
+
+-- want of memory, and a fault of the store, which has a clause of its own
+abbrev pub IsFree : Cause → Type 0
+IsFree c = (c ≡ cause.NoMemory) ⊎ (c ≡ cause.StoreFault)
+
+-- Done and a fault of the sink come only where there is a text to write; any other cause is the
+-- one against it, or free
+abbrev pub Ends : Verdict → Cause → Type 0
+Ends verdict cause.Done = (text : List ℕ) × (verdict ≡ Ok text)
+Ends verdict cause.SinkFault = (text : List ℕ) × (verdict ≡ Ok text)
+Ends verdict c = (verdict ≡ Err c) ⊎ IsFree c
+
+-- with Done the whole text is written, with a fault of the sink a beginning of it, else nothing
+abbrev pub Writes : Verdict → Cause → Option (List ℕ) → Option (List ℕ) → Type 0
+Writes (Ok text) cause.Done old new = Appends old new text
+Writes (Ok text) cause.SinkFault old new = AppendsPrefix old new text
+Writes _ _ old new = Keeps old new

@@ -1,0 +1,4 @@
+pub mod Causes
+pub mod CheckText
+pub mod Verdict
+pub mod Words

@@ -1,0 +1,58 @@
+-- What a command has to come to: the text to write, or the cause against it, in the order in
+-- which the causes are tested (docs/FORMATS.md, "Causes and statuses").
+use Rattle.std.specs.Prelude.{ℕ, Bool, nat_lt, if◌then◌else◌, List, [], ◌∷◌, length, take, Option, Some, None, Result, Ok, Err}
+use Rattle.std.specs.Str.{bytes_eq}
+use Rattle.cv_base.specs.declared.image.ImageFault.{ImageFault}
+use Rattle.cv_base.specs.Picture.{Picture}
+use Rattle.cv_elf.specs.ElfReading.{elf_reading}
+use Rattle.cv_image.specs.FlatReading.{flat_reading}
+use Rattle.cv_job.specs.declared.job.JobFault.{JobFault}
+use Rattle.cv_job.specs.JobOf.{JobOf, plan_of}
+use Rattle.cv_job.specs.Reading.{reading_of}
+use Rattle.cv_runs.specs.PlainText.{plain_text}
+use Rattle.clearview.specs.CheckText.{check_text}
+use Rattle.clearview.specs.declared.cause.Cause.{Cause}
+use Rattle.clearview.specs.declared.cause.Cause.TheVariants as cause
+use Rattle.clearview.specs.Words.{Command, Plain, Check, command_of}
+
+abbrev pub Verdict : Type 0
+Verdict = Result (List ℕ) Cause
+
+-- a cause stands; else the text goes on from what there is
+abbrev pub and_then : {A B : Type 0} → Result A Cause → (A → Result B Cause) → Result B Cause
+and_then (Ok a) next = next a
+and_then (Err c) next = Err c
+
+abbrev pub refused : {A F : Type 0} → (F → Cause) → Result A F → Result A Cause
+refused why (Ok a) = Ok a
+refused why (Err f) = Err (why f)
+
+-- a file that begins with 7F 45 4C 46 is read as ELF, every other as words
+abbrev pub image_reading : List ℕ → Result Picture ImageFault
+image_reading bytes =
+    if bytes_eq (take 4 bytes) (0x7f ∷ 0x45 ∷ 0x4c ∷ 0x46 ∷ []) then elf_reading bytes else flat_reading bytes
+
+-- the image that a file holds; None where there is no such file
+abbrev pub image_in : Option (List ℕ) → Result Picture Cause
+image_in None = Err cause.FileMissing
+image_in (Some bytes) =
+    if nat_lt 4194304 (length bytes) then Err cause.ImageLong
+    else refused (λ f. cause.ImageRefused f) (image_reading bytes)
+
+-- the job that a file holds
+abbrev pub job_in : Option (List ℕ) → Result JobOf Cause
+job_in None = Err cause.FileMissing
+job_in (Some bytes) =
+    if nat_lt 16777216 (length bytes) then Err cause.JobLong
+    else refused (λ f. cause.JobRefused f) (reading_of bytes)
+
+abbrev pub verdict_by : Option Command → (List ℕ → Option (List ℕ)) → Verdict
+verdict_by None file = Err cause.Usage
+verdict_by (Some (Plain image budget input)) file =
+    and_then (image_in (file image)) (λ (picture : Picture). Ok (plain_text picture input budget))
+verdict_by (Some (Check job)) file =
+    and_then (job_in (file job)) (λ (order : JobOf).
+      and_then (image_in (file order.image)) (λ (picture : Picture). Ok (check_text (plan_of order picture))))
+
+abbrev pub verdict_of : List (List ℕ) → (List ℕ → Option (List ℕ)) → Verdict
+verdict_of words file = verdict_by (command_of words) file

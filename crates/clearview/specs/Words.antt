@@ -1,0 +1,59 @@
+-- Which lists of words are commands (docs/FORMATS.md, "Words").
+use Rattle.std.specs.Prelude.{ℕ, Bool, true, false, not, ◌&&◌, ◌==◌, ◌+◌, ◌-◌, ◌*◌, ◌%◌, nat_le, if◌then◌else◌, List, [], ◌∷◌, length, codes, Option, Some, None, option_and_then, option_map}
+use Rattle.std.specs.List.{list_all}
+use Rattle.std.specs.Result.{result_ok}
+use Rattle.std.specs.Str.{bytes_eq}
+use Rattle.hex.specs.Decode.{decode_of}
+
+pub data Command : Type 0 where
+  Plain : List ℕ → ℕ → List ℕ → Command      -- image's name, budget, input
+  Check : List ℕ → Command                   -- job's name
+
+abbrev pub within : ℕ → ℕ → ℕ → Bool
+within low high n = nat_le low n && nat_le n high
+
+abbrev pub only_if : {A : Type 0} → (A → Bool) → Option A → Option A
+only_if test None = None
+only_if test (Some a) = if test a then Some a else None
+
+-- a file's name: not empty, and does not begin with `-`
+abbrev pub is_name : List ℕ → Bool
+is_name [] = false
+is_name (c ∷ cs) = not (c == 45)
+
+-- the number that decimal digits write
+abbrev pub is_digit : ℕ → Bool
+is_digit c = within 48 57 c
+
+abbrev pub number_from : ℕ → List ℕ → ℕ
+number_from n [] = n
+number_from n (c ∷ cs) = number_from (10 * n + (c - 48)) cs
+
+-- a budget: 1 to 8 digits, 1 to 10,000,000
+abbrev pub budget_of : List ℕ → Option ℕ
+budget_of word =
+    if within 1 8 (length word) && list_all is_digit word && within 1 10000000 (number_from 0 word)
+    then Some (number_from 0 word) else None
+
+-- an input: `none`, or 2 to 131,072 hexadecimal digits, two a byte
+abbrev pub input_of : List ℕ → Option (List ℕ)
+input_of word =
+    if bytes_eq word (codes "none") then Some []
+    else if within 2 131072 (length word) then result_ok (decode_of word) else None
+
+abbrev pub plain_of : List ℕ → List ℕ → List ℕ → Option Command
+plain_of image budget input =
+    if is_name image
+    then option_and_then (λ n. option_map (λ bytes. Plain image n bytes) (input_of input)) (budget_of budget)
+    else None
+
+abbrev pub command_of : List (List ℕ) → Option Command
+command_of (name ∷ job ∷ []) = if bytes_eq name (codes "check") && is_name job then Some (Check job) else None
+command_of (name ∷ image ∷ budget ∷ input ∷ []) = if bytes_eq name (codes "plain") then plain_of image budget input else None
+command_of _ = None
+
+-- how many files a command names: those of its words, and after a job the job's image
+abbrev pub files_named : Option Command → ℕ
+files_named None = 0
+files_named (Some (Plain image budget input)) = 1
+files_named (Some (Check job)) = 2

@@ -1,0 +1,2 @@
+//! Worked examples of the definitions, computed by the checker.
+#![tactic(auto)]

@@ -1,0 +1,16 @@
+//! The machine: an RV32I hart with its memory, heap blocks, shadow stack, input and output, of
+//! which a turn is one instruction (docs/MACHINE.md).
+#![tactic(auto)]
+
+mod computing;
+mod executing;
+mod jumping;
+mod machine;
+mod moving;
+mod running;
+mod serving;
+mod turn;
+
+pub use machine::Machine;
+pub use running::run;
+pub use turn::Turn;
