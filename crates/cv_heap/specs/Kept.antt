@@ -1,5 +1,5 @@
 -- What the live blocks keep, and what a search among them finds (docs/MACHINE.md, "Services").
-use Rattle.std.specs.Prelude.{◌≡◌, ℕ, true, false, ◌==◌, ◌+◌, ◌<◌, ◌≤◌, List, length}
+use Rattle.std.specs.Prelude.{◌≡◌, ℕ, false, ◌==◌, ◌+◌, ◌<◌, ◌≤◌, List, length}
 use Rattle.std.specs.List.{All, AllPairs, AllWithin, HoldsAt}
 use Rattle.cv_base.specs.declared.TheConstants.{STACK_START}
 use Rattle.cv_heap.specs.declared.TheConstants.{MOST_BLOCKS}

@@ -1,6 +1,6 @@
 ghost use Rattle.std.specs.Prelude.{◌≡◌, ◌==◌, ◌≤◌, ◌+◌, ◌<◌, if◌then◌else◌, Some, None, IfOk, length, MatchOption};
 ghost use Rattle.cv_heap.specs.Heap.{empty_heap, has_room, with_block, begins_block, without_block, covers};
-ghost use Rattle.cv_heap.specs.Kept.{AreApart, NoneBegins, BeginsAt, NoneBegun, IsLastBegun};
+ghost use Rattle.cv_heap.specs.Kept.{AreApart, IsHeap, NoneBegins, BeginsAt, NoneBegun, IsLastBegun};
 
 use crate::MOST_BLOCKS;
 use cv_base::{HEAP_START, NoMemory, STACK_START};
@@ -59,6 +59,7 @@ impl Blocks {
     pub fn alloc(&mut self, size: u32) -> Option<u32>
         ensures place { result ≡ (if has_room self.old size then Some self.old.next else None) }
         ensures blocks { self.new ≡ (if has_room self.old size then with_block self.old size else self.old) }
+        ensures kept { IsHeap self.new }
     {
         let end = u64::from(self.next) + u64::from(size);
         if self.blocks.len() >= MOST_BLOCKS as usize || end > u64::from(STACK_START) {
@@ -66,7 +67,7 @@ impl Blocks {
         }
         let place = self.next;
         self.blocks.push(Block { place, size }).unwrap();
-        self.next = place + 16 * ((size + 15) / 16) + 16;
+        self.next = place + size.next_multiple_of(16) + 16;
         Some(place)
     }
 

@@ -1,4 +1,4 @@
-use Rattle.std.proofs.Common.{◌≡◌, rules}
+use Rattle.std.proofs.Common.{rules}
 use Rattle.std.proofs.lemmas.Fn.{always_returns_same}
 use Rattle.cv_heap.specs.declared.blocks.Block.{Block}
 use Rattle.cv_heap.proofs.Places.{begin_found}

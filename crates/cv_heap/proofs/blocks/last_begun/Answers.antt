@@ -1,4 +1,4 @@
-use Rattle.std.proofs.Common.{◌≡◌, leb, rules}
+use Rattle.std.proofs.Common.{leb, rules}
 use Rattle.std.proofs.lemmas.List.Sorted.{IsPartitionPoint-from_clause, IsPartitionedBy-leb}
 use Rattle.cv_heap.specs.declared.blocks.Block.{Block}
 use Rattle.cv_heap.proofs.Places.{rising, last_found}

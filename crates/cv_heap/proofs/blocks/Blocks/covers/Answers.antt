@@ -1,4 +1,4 @@
-use Rattle.std.proofs.Common.{◌≡◌, sym}
+use Rattle.std.proofs.Common.{sym}
 use Rattle.cv_heap.proofs.Places.{covers_last, covers_none}
 use Rattle.cv_heap.proofs.blocks.Blocks.covers.Goals as goal
 

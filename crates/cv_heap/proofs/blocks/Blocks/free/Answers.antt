@@ -1,4 +1,4 @@
-use Rattle.std.proofs.Common.{◌≡◌, sym}
+use Rattle.std.proofs.Common.{sym}
 use Rattle.std.proofs.lemmas.List.Folds.{list_any_none}
 use Rattle.cv_heap.proofs.Places.{free_at, free_none}
 use Rattle.cv_heap.proofs.blocks.Blocks.free.Goals as goal
