@@ -1,2 +1,4 @@
+pub mod Inverse
+pub mod Placing
 pub mod Rows
 pub mod Sets

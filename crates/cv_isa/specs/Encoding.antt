@@ -61,15 +61,22 @@ rs1_placed i = i.rs1 * 2 ^ 15
 abbrev pub rs2_placed : Instruction → ℕ
 rs2_placed i = i.rs2 * 2 ^ 20
 
+-- the offsets of branches and jumps in their places
+abbrev pub branch_placed : ℕ → ℕ
+branch_placed imm = bits imm 11 1 * 2 ^ 7 + bits imm 1 4 * 2 ^ 8 + bits imm 5 6 * 2 ^ 25 + bits imm 12 1 * 2 ^ 31
+
+abbrev pub jump_placed : ℕ → ℕ
+jump_placed imm = bits imm 12 8 * 2 ^ 12 + bits imm 11 1 * 2 ^ 20 + bits imm 1 10 * 2 ^ 21 + bits imm 20 1 * 2 ^ 31
+
 -- the word of a format with these shared bits and these fields
 abbrev pub placed : Format → ℕ → Instruction → ℕ
 placed Register code i = code + rd_placed i + rs1_placed i + rs2_placed i
 placed Immediate code i = code + rd_placed i + rs1_placed i + bits i.imm 0 12 * 2 ^ 20
 placed Shift code i = code + rd_placed i + rs1_placed i + bits i.imm 0 5 * 2 ^ 20
 placed Store code i = code + rs1_placed i + rs2_placed i + bits i.imm 0 5 * 2 ^ 7 + bits i.imm 5 7 * 2 ^ 25
-placed Branch code i = code + rs1_placed i + rs2_placed i + bits i.imm 11 1 * 2 ^ 7 + bits i.imm 1 4 * 2 ^ 8 + bits i.imm 5 6 * 2 ^ 25 + bits i.imm 12 1 * 2 ^ 31
+placed Branch code i = code + rs1_placed i + rs2_placed i + branch_placed i.imm
 placed Upper code i = code + rd_placed i + bits i.imm 12 20 * 2 ^ 12
-placed Jump code i = code + rd_placed i + bits i.imm 12 8 * 2 ^ 12 + bits i.imm 11 1 * 2 ^ 20 + bits i.imm 1 10 * 2 ^ 21 + bits i.imm 20 1 * 2 ^ 31
+placed Jump code i = code + rd_placed i + jump_placed i.imm
 placed Environment code i = code
 
 -- the shared bits lie outside the fields of the format

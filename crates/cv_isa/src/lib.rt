@@ -5,14 +5,18 @@
 #![tactic(auto)]
 
 mod decoder;
+mod encoder;
 mod instruction;
 mod operation;
 mod registers;
+mod table;
 mod uses;
 mod words;
 
 pub use decoder::decode;
+pub use encoder::encode;
 pub use instruction::Inst;
 pub use operation::{Format, Op};
 pub use registers::RegSet;
+pub use table::one_row_at_most;
 pub use uses::{LinkKind, is_transfer, link_kind, reads};
