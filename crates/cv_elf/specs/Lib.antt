@@ -1,0 +1,5 @@
+pub mod ElfReading
+pub mod Fields
+pub mod Headers
+pub mod Loading
+pub mod Tests

@@ -1,0 +1,8 @@
+//! Reads an ELF image: a statically linked 32-bit RISC-V executable
+//! (docs/FORMATS.md, "ELF image").
+#![tactic(auto)]
+
+mod fields;
+mod header;
+
+pub use header::ProgramHeader;

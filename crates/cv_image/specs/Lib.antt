@@ -1,0 +1,2 @@
+pub mod FlatReading
+pub mod ReadsAs
