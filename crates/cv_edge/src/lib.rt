@@ -1,0 +1,20 @@
+//! The outside: where files come from and where text goes, as traits; both in memory, for tests;
+//! and both over the operating system, which is trusted.
+#![tactic(auto)]
+
+mod counts;
+mod file_store;
+mod mem_sink;
+mod mem_store;
+mod sink;
+mod std_sink;
+mod store;
+#[cfg(test)]
+mod tests;
+
+pub use file_store::FileStore;
+pub use mem_sink::MemSink;
+pub use mem_store::MemStore;
+pub use sink::{Failed, Sink, write_all};
+pub use std_sink::StdSink;
+pub use store::{FetchFail, Fetched, Store};
