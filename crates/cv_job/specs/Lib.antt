@@ -1,0 +1,10 @@
+pub mod Answers
+pub mod Fields
+pub mod FirstBroken
+pub mod JobFaultText
+pub mod JobLine
+pub mod JobOf
+pub mod Json
+pub mod Limits
+pub mod Reading
+pub mod Rounds
