@@ -1,7 +1,13 @@
+pub mod Apply
 pub mod Arithmetic
+pub mod BlockEntries
 pub mod Effects
+pub mod Invariants
+pub mod Learned
+pub mod PatchedRun
 pub mod PlainRun
 pub mod PlainText
 pub mod PlainTurn
 pub mod Services
 pub mod State
+pub mod Text
