@@ -1,16 +1,16 @@
 -- Encoding and decoding undo each other, and a word fits one row at most.
-use Rattle.std.proofs.Common.{◌≡◌, ℕ, ◌%◌, ◌/◌, ◌^◌, ◌<◌, Bool, true, false, cond, Option, Some, None, List, [], ◌∷◌, ◌==◌, ◌&&◌, if◌then◌else◌, refl, sym, ap, ◌∙◌, arith, rules}
-use Rattle.std.specs.List.{AllByRecursion, Contains}
-use Rattle.std.specs.Prelude.{IsTrue}
+use Rattle.std.proofs.Common.{◌≡◌, ℕ, ◌%◌, ◌^◌, ◌<◌, Bool, true, false, cond, Option, Some, None, List, [], ◌∷◌, refl, sym, ap, ◌∙◌, arith, rules}
+use Rattle.std.specs.List.{All, AllByRecursion, Contains, find}
+use Rattle.std.specs.Option.{option_map}
 use Rattle.std.proofs.lemmas.Bool.Decides.{nat_tests}
-use Rattle.std.proofs.lemmas.List.Elements.{All-contains, All-from_recursion}
+use Rattle.std.proofs.lemmas.List.Elements.{All-contains, All-from_recursion, recursion_from_All}
 use Rattle.cv_isa.specs.declared.operation.Op.{Op}
 use Rattle.cv_isa.specs.declared.operation.Op.TheVariants as op
 use Rattle.cv_isa.specs.declared.operation.Format.{Format}
-use Rattle.cv_isa.specs.declared.operation.Format.TheVariants.{Register, Immediate, Shift, Store, Branch, Upper, Jump, Environment}
+use Rattle.cv_isa.specs.declared.operation.Format.TheVariants.{Register}
 use Rattle.cv_isa.specs.Bits.{bits}
-use Rattle.cv_isa.specs.Instruction.{Instruction, IsInstruction, format_of, IsOfFormat}
-use Rattle.cv_isa.specs.DecodeTable.{Row, row, rows, fits, instruction_at, meaning_of}
+use Rattle.cv_isa.specs.Instruction.{Instruction, IsInstruction, format_of}
+use Rattle.cv_isa.specs.DecodeTable.{Row, row, rows, fits, instruction_at, meaning_of, row_of}
 use Rattle.cv_isa.specs.ByFields.{agrees, operation_at}
 use Rattle.cv_isa.specs.Encoding.{code_of, placed, IsCode}
 use Rattle.cv_isa.proofs.Rows.{mask_of, IsRow, all_rows, fits_is, first_at, meaning_from, meaning_of-by_fields}
@@ -110,3 +110,29 @@ same_row w small r s inside_r inside_s fit_r fit_s =
     row_of_op r inside_r
     ∙ ap (λ (o : Op). row o (format_of o) (mask_of (format_of o)) (code_of o)) same
     ∙ sym (row_of_op s inside_s)
+
+-- ---- no row
+
+all_refuse_at : (w : ℕ) (r : Row) (rs : List Row) (fit : Bool) → fits w r ≡ fit → (find (fits w) rs ≡ None → AllByRecursion (λ s. fits w s ≡ false) rs) → cond fit (Some r) (find (fits w) rs) ≡ None → AllByRecursion (λ s. fits w s ≡ false) (r ∷ rs)
+all_refuse_at w r rs true is later none = absurd (cc)
+all_refuse_at w r rs false is later none = (is, later none)
+
+all_refuse : (w : ℕ) (rs : List Row) → find (fits w) rs ≡ None → AllByRecursion (λ s. fits w s ≡ false) rs
+all_refuse w [] none = tt
+all_refuse w (r ∷ rs) none = all_refuse_at w r rs (fits w r) refl (all_refuse w rs) none
+
+none_found : (w : ℕ) (rs : List Row) → AllByRecursion (λ s. fits w s ≡ false) rs → find (fits w) rs ≡ None
+none_found w [] refused = refl
+none_found w (r ∷ rs) refused = ap (λ (b : Bool). cond b (Some r) (find (fits w) rs)) refused.0 ∙ none_found w rs refused.1
+
+none_mapped : {A B : Type 0} (f : A → B) (o : Option A) → option_map f o ≡ None → o ≡ None
+none_mapped f None h = refl
+none_mapped f (Some x) h = absurd (cc)
+
+pub no_row : (w : ℕ) → meaning_of w ≡ None → All (λ s. fits w s ≡ false) rows
+unfolding row_of
+no_row w none = All-from_recursion (λ s. fits w s ≡ false) rows (all_refuse w rows (none_mapped (λ (r : Row). instruction_at r.format r.op w) (row_of w) none))
+
+pub no_meaning : (w : ℕ) → All (λ s. fits w s ≡ false) rows → meaning_of w ≡ None
+unfolding row_of
+no_meaning w refused = ap (option_map (λ (r : Row). instruction_at r.format r.op w)) (none_found w rows (recursion_from_All (λ s. fits w s ≡ false) rows refused))

@@ -1,13 +1,13 @@
 -- The fields of an instruction, put into a word and taken from it.
-use Rattle.std.proofs.Common.{◌≡◌, ℕ, ◌+◌, ◌*◌, ◌/◌, ◌%◌, ◌^◌, ◌<◌, Bool, true, false, cond, Option, Some, None, List, [], ◌∷◌, ◌==◌, ◌&&◌, if◌then◌else◌, refl, sym, ap, ◌∙◌, arith, rules}
+use Rattle.std.proofs.Common.{◌≡◌, ℕ, ◌/◌, ◌%◌, ◌^◌, ◌<◌, Bool, true, Some, refl, ap, ◌∙◌, arith}
 use Rattle.std.proofs.lemmas.Bool.Decides.{nat_tests}
 use Rattle.cv_isa.specs.declared.operation.Op.{Op}
 use Rattle.cv_isa.specs.declared.operation.Op.TheVariants as op
 use Rattle.cv_isa.specs.declared.operation.Format.{Format}
-use Rattle.cv_isa.specs.declared.operation.Format.TheVariants.{Register, Immediate, Shift, Store, Branch, Upper, Jump, Environment}
-use Rattle.cv_isa.specs.Bits.{bits, sign_extend}
+use Rattle.cv_isa.specs.declared.operation.Format.TheVariants.{Register, Shift, Upper, Jump, Environment}
+use Rattle.cv_isa.specs.Bits.{bits}
 use Rattle.cv_isa.specs.Instruction.{Instruction, format_of, IsOfFormat}
-use Rattle.cv_isa.specs.DecodeTable.{row, instruction_at, immediate_of}
+use Rattle.cv_isa.specs.DecodeTable.{row, instruction_at}
 use Rattle.cv_isa.specs.ByFields.{agrees, operation_at}
 use Rattle.cv_isa.specs.Encoding.{code_of, placed, IsCode}
 use Rattle.cv_isa.proofs.Rows.{mask_of}

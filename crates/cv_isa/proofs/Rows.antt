@@ -1,5 +1,5 @@
 -- The decode table by mask and by opcode, funct3 and funct7: both readings are one.
-use Rattle.std.proofs.Common.{◌≡◌, ℕ, ◌+◌, ◌*◌, ◌/◌, ◌%◌, ◌^◌, ◌<◌, Bool, true, false, cond, Option, Some, None, List, [], ◌∷◌, ◌==◌, ◌&&◌, if◌then◌else◌, refl, ap, ◌∙◌, bit_and, arith, rules}
+use Rattle.std.proofs.Common.{◌≡◌, ℕ, ◌+◌, ◌*◌, ◌/◌, ◌%◌, ◌^◌, ◌<◌, Bool, true, false, cond, Option, Some, List, [], ◌∷◌, ◌==◌, ◌&&◌, if◌then◌else◌, refl, ap, ◌∙◌, bit_and, arith, rules}
 use Rattle.std.specs.List.{AllByRecursion, find}
 use Rattle.std.specs.Option.{option_map}
 use Rattle.std.proofs.lemmas.Nat.{and_mask, and_block}
@@ -9,7 +9,7 @@ use Rattle.cv_isa.specs.declared.operation.Op.{Op}
 use Rattle.cv_isa.specs.declared.operation.Format.{Format}
 use Rattle.cv_isa.specs.declared.operation.Format.TheVariants.{Register, Immediate, Shift, Store, Branch, Upper, Jump, Environment}
 use Rattle.cv_isa.specs.Instruction.{Instruction, format_of}
-use Rattle.cv_isa.specs.DecodeTable.{Row, row, rows, fits, row_of, instruction_at, meaning_of}
+use Rattle.cv_isa.specs.DecodeTable.{Row, rows, fits, row_of, instruction_at, meaning_of}
 use Rattle.cv_isa.specs.ByFields.{agrees, first_of, operation_at}
 use Rattle.cv_isa.specs.Encoding.{code_of, IsCode}
 

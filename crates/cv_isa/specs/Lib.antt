@@ -2,5 +2,6 @@ pub mod Bits
 pub mod ByFields
 pub mod DecodeTable
 pub mod Encoding
+pub mod Examples
 pub mod Instruction
 pub mod Uses

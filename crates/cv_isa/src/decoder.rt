@@ -8,6 +8,7 @@ use crate::instruction::Inst;
 use crate::operation::{Format, Op};
 use crate::words::{branch_field, field, immediate_field, jump_field, store_field};
 
+/// The branch of this funct3 (ISA manual, 2.5).
 fn branch(funct3: u32) -> Option<Op>
     ensures { result ≡ operation_at 0x63 funct3 0 0 }
 {
@@ -22,6 +23,7 @@ fn branch(funct3: u32) -> Option<Op>
     }
 }
 
+/// The load of this funct3 (ISA manual, 2.6).
 fn load(funct3: u32) -> Option<Op>
     ensures { result ≡ operation_at 0x03 funct3 0 0 }
 {
@@ -35,6 +37,7 @@ fn load(funct3: u32) -> Option<Op>
     }
 }
 
+/// The store of this funct3 (ISA manual, 2.6).
 fn store(funct3: u32) -> Option<Op>
     ensures { result ≡ operation_at 0x23 funct3 0 0 }
 {
@@ -46,6 +49,8 @@ fn store(funct3: u32) -> Option<Op>
     }
 }
 
+/// The computation on a register and an immediate of these fields (ISA manual, 2.4); funct7 counts
+/// for shifts alone.
 fn with_immediate(funct3: u32, funct7: u32) -> Option<Op>
     ensures { result ≡ operation_at 0x13 funct3 funct7 0 }
 {
@@ -63,6 +68,7 @@ fn with_immediate(funct3: u32, funct7: u32) -> Option<Op>
     }
 }
 
+/// The computation on two registers of these fields (ISA manual, 2.4).
 fn with_registers(funct3: u32, funct7: u32) -> Option<Op>
     ensures { result ≡ operation_at 0x33 funct3 funct7 0 }
 {
@@ -81,6 +87,7 @@ fn with_registers(funct3: u32, funct7: u32) -> Option<Op>
     }
 }
 
+/// ECALL or EBREAK, each of which is one word (ISA manual, 2.8).
 fn environment(word: u32) -> Option<Op>
     ensures { result ≡ operation_at 0x73 0 0 word }
 {
@@ -91,6 +98,7 @@ fn environment(word: u32) -> Option<Op>
     }
 }
 
+/// The operation of the word, by its opcode, funct3 and funct7.
 fn operation(word: u32) -> Option<Op>
     ensures { result ≡ operation_at (bits word 0 7) (bits word 12 3) (bits word 25 7) word }
 {
@@ -112,6 +120,7 @@ fn operation(word: u32) -> Option<Op>
     }
 }
 
+/// The register number in the five bits from `low` on.
 fn register(word: u32, low: u32) -> u8
     requires { low < 32 }
     ensures value { result ≡ bits word low 5 }
@@ -120,7 +129,7 @@ fn register(word: u32, low: u32) -> u8
     field(word, low, 5) as u8
 }
 
-/// The instruction `op` with the fields of the word.
+/// The instruction `op`, whose words have this format, with the fields of the word.
 fn instruction(format: Format, op: Op, word: u32) -> Inst
     requires { format ≡ format_of op }
     ensures { result ≡ instruction_at format op word }
@@ -129,62 +138,14 @@ fn instruction(format: Format, op: Op, word: u32) -> Inst
     let rs1 = register(word, 15);
     let rs2 = register(word, 20);
     match format {
-        Format::Register => Inst {
-            op,
-            rd,
-            rs1,
-            rs2,
-            imm: 0,
-        },
-        Format::Immediate => Inst {
-            op,
-            rd,
-            rs1,
-            rs2: 0,
-            imm: immediate_field(word),
-        },
-        Format::Shift => Inst {
-            op,
-            rd,
-            rs1,
-            rs2: 0,
-            imm: field(word, 20, 5),
-        },
-        Format::Store => Inst {
-            op,
-            rd: 0,
-            rs1,
-            rs2,
-            imm: store_field(word),
-        },
-        Format::Branch => Inst {
-            op,
-            rd: 0,
-            rs1,
-            rs2,
-            imm: branch_field(word),
-        },
-        Format::Upper => Inst {
-            op,
-            rd,
-            rs1: 0,
-            rs2: 0,
-            imm: field(word, 12, 20) << 12,
-        },
-        Format::Jump => Inst {
-            op,
-            rd,
-            rs1: 0,
-            rs2: 0,
-            imm: jump_field(word),
-        },
-        Format::Environment => Inst {
-            op,
-            rd: 0,
-            rs1: 0,
-            rs2: 0,
-            imm: 0,
-        },
+        Format::Register => Inst::new(op, rd, rs1, rs2, 0),
+        Format::Immediate => Inst::new(op, rd, rs1, 0, immediate_field(word)),
+        Format::Shift => Inst::new(op, rd, rs1, 0, field(word, 20, 5)),
+        Format::Store => Inst::new(op, 0, rs1, rs2, store_field(word)),
+        Format::Branch => Inst::new(op, 0, rs1, rs2, branch_field(word)),
+        Format::Upper => Inst::new(op, rd, 0, 0, field(word, 12, 20) << 12),
+        Format::Jump => Inst::new(op, rd, 0, 0, jump_field(word)),
+        Format::Environment => Inst::new(op, 0, 0, 0, 0),
     }
 }
 

@@ -76,18 +76,17 @@ fn jump_offset(imm: u32) -> u32
         + (field(imm, 20, 1) << 31)
 }
 
-/// The word of the format with these shared bits and the instruction's fields.
-fn word_of(format: Format, code: u32, inst: &Inst) -> u32
-    requires code { IsCode format code }
-    requires format { format ≡ format_of inst.now.op }
-    ensures placed { result ≡ placed format code inst.now }
+/// The word that has the shared bits of the operation and the fields of the instruction.
+fn word_of(inst: &Inst) -> u32
+    ensures placed { result ≡ placed (format_of inst.now.op) (code_of inst.now.op) inst.now }
     ensures known { IsInstruction inst.now }
 {
+    let code = shared_bits(inst.op);
     let imm = inst.imm;
     let rd = u32::from(inst.rd) << 7;
     let rs1 = u32::from(inst.rs1) << 15;
     let rs2 = u32::from(inst.rs2) << 20;
-    match format {
+    match inst.op.format() {
         Format::Register => code + rd + rs1 + rs2,
         Format::Immediate => code + rd + rs1 + (field(imm, 0, 12) << 20),
         Format::Shift => code + rd + rs1 + (field(imm, 0, 5) << 20),
@@ -99,10 +98,10 @@ fn word_of(format: Format, code: u32, inst: &Inst) -> u32
     }
 }
 
-/// The word of the instruction: the only one that `decode` gives it for.
+/// The word of the instruction: the only one that `decode` takes for it (ISA manual, 2.2 and 2.3).
 pub fn encode(inst: &Inst) -> u32
     ensures decodes { meaning_of result ≡ Some inst.now }
     ensures only { (w : ℕ) → w < 2 ^ 32 → meaning_of w ≡ Some inst.now → w ≡ result }
 {
-    word_of(inst.op.format(), shared_bits(inst.op), inst)
+    word_of(inst)
 }

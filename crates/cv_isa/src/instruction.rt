@@ -28,3 +28,24 @@ impl Model for Inst {
 
     ghost inverse = { λ i. record { op = i.op; rd = i.rd; rs1 = i.rs1; rs2 = i.rs2; imm = i.imm } };
 }
+
+impl Inst {
+    ghost use Rattle.std.specs.Prelude.{◌≡◌};
+    ghost use Rattle.cv_isa.specs.DecodeTable.{with_fields};
+    ghost use Rattle.cv_isa.specs.Instruction.{IsInstruction};
+
+    /// The instruction of these fields, which have to be in the ranges of its format, and 0 where the
+    /// format lacks them.
+    pub fn new(op: Op, rd: u8, rs1: u8, rs2: u8, imm: u32) -> Inst
+        requires { IsInstruction (with_fields op rd rs1 rs2 imm) }
+        ensures { result ≡ with_fields op rd rs1 rs2 imm }
+    {
+        Inst {
+            op,
+            rd,
+            rs1,
+            rs2,
+            imm,
+        }
+    }
+}

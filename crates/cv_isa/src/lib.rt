@@ -18,5 +18,5 @@ pub use encoder::encode;
 pub use instruction::Inst;
 pub use operation::{Format, Op};
 pub use registers::RegSet;
-pub use table::one_row_at_most;
+pub use table::{no_meaning_without_row, one_row_at_most, worked_examples};
 pub use uses::{LinkKind, is_transfer, link_kind, reads};

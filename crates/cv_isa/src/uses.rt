@@ -39,12 +39,14 @@ pub fn is_transfer(inst: &Inst) -> bool
     )
 }
 
+/// Whether the register holds return addresses by convention: x1 and x5.
 fn is_link_register(reg: u8) -> bool
     ensures { result ≡ is_link reg }
 {
     reg == 1 || reg == 5
 }
 
+/// What a JALR with these registers does to the return-address stack.
 fn jalr_link_kind(rd: u8, rs1: u8) -> LinkKind
     ensures { result ≡ jalr_link rd rs1 }
 {
@@ -77,6 +79,7 @@ pub fn reads(inst: &Inst) -> RegSet
     operands(inst)
 }
 
+/// The same set as `reads`.
 fn operands(inst: &Inst) -> RegSet
     ensures { (r : ℕ) → has result r ≡ is_read inst.now r }
 {
@@ -100,6 +103,7 @@ fn sources(inst: &Inst) -> RegSet
     }
 }
 
+/// The set with the source register added, where it is not x0.
 fn with_source(set: RegSet, reg: u8) -> RegSet
     requires { reg < 32 }
     ensures { (r : ℕ) → has result r ≡ ((not (r == 0) && (r == reg)) || has set r) }

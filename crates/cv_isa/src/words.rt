@@ -28,6 +28,7 @@ pub(crate) fn extended(value: u32, count: u32) -> u32
     }
 }
 
+/// The immediate of an I-type word.
 pub(crate) fn immediate_field(word: u32) -> u32
     ensures value { result ≡ immediate_of Format.Immediate word }
     ensures extended { IsExtended 12 result }
@@ -35,6 +36,7 @@ pub(crate) fn immediate_field(word: u32) -> u32
     extended(field(word, 20, 12), 12)
 }
 
+/// The immediate of an S-type word.
 pub(crate) fn store_field(word: u32) -> u32
     ensures value { result ≡ immediate_of Format.Store word }
     ensures extended { IsExtended 12 result }
@@ -42,6 +44,7 @@ pub(crate) fn store_field(word: u32) -> u32
     extended((field(word, 25, 7) << 5) + field(word, 7, 5), 12)
 }
 
+/// The offset of a B-type word.
 pub(crate) fn branch_field(word: u32) -> u32
     ensures value { result ≡ immediate_of Format.Branch word }
     ensures extended { IsExtended 13 result }
@@ -54,6 +57,7 @@ pub(crate) fn branch_field(word: u32) -> u32
     )
 }
 
+/// The offset of a J-type word.
 pub(crate) fn jump_field(word: u32) -> u32
     ensures value { result ≡ immediate_of Format.Jump word }
     ensures extended { IsExtended 21 result }

@@ -1,6 +1,6 @@
 use Rattle.std.proofs.Common.{◌≡◌, ◌<◌, ◌^◌, Some, None, sym, ap, ◌∙◌, arith, rules}
 use Rattle.cv_isa.specs.declared.operation.Format.{Format}
-use Rattle.cv_isa.specs.DecodeTable.{instruction_at, meaning_of}
+use Rattle.cv_isa.specs.DecodeTable.{instruction_at}
 use Rattle.cv_isa.proofs.Rows.{meaning_of-by_fields, meaning_from}
 use Rattle.cv_isa.proofs.decoder.decode.Goals as goal
 
