@@ -2,6 +2,11 @@
 //! (docs/MACHINE.md, "Regions").
 #![tactic(auto)]
 
+mod bytes;
+mod laws;
+mod regions;
+mod segments;
 mod space;
 
+pub use laws::each_address_tests_each;
 pub use space::{MemFault, Space};
