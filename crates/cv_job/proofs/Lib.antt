@@ -1,3 +1,4 @@
+pub mod Examples
 pub mod FirstFault
 pub mod Prepended
 pub mod Views

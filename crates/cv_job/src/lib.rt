@@ -9,6 +9,8 @@ mod json;
 mod line;
 mod reader;
 mod rounds;
+#[cfg(test)]
+mod tests;
 
 pub use count::runs_in;
 pub use job::{Job, JobFail, JobFault, JobField};

@@ -31,6 +31,8 @@ fn line_of(
 ) -> Result<String, NoMemory>
     ensures { IfOk result (λ s. string_bytes s ≡ line_with workers checks budget rounds runs) }
 {
-    let line = format!(in alloc; "job workers {workers} checks {checks} budget {budget} rounds {rounds} runs {runs}")?;
+    let line = format!(in alloc;
+        "job workers {workers} checks {checks} budget {budget} rounds {rounds} runs {runs}"
+    )?;
     Ok(line)
 }

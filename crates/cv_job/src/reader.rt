@@ -1,8 +1,9 @@
-ghost use Rattle.std.specs.Prelude.{◌≡◌, ◌↔◌, Some, Err};
+ghost use Rattle.std.specs.Prelude.{◌≡◌, ◌↔◌, Some, Err, IfOk};
 ghost use Rattle.serde_json.specs.Data.{Data};
 ghost use Rattle.serde_json.specs.View.{view};
 ghost use Rattle.cv_job.specs.Answers.{Answers};
 ghost use Rattle.cv_job.specs.FirstBroken.{first_broken, rules_of};
+ghost use Rattle.cv_job.specs.JobOf.{IsJob};
 ghost use Rattle.cv_job.specs.Reading.{fields_of, reading_of};
 ghost use Rattle.cv_job.specs.declared.job.JobField.{JobField as AField};
 ghost use Rattle.cv_job.specs.declared.job.JobFail.TheVariants as fail;
@@ -21,7 +22,8 @@ use std::alloc::Global;
 /// bytes are no JSON, the value is no object, a field's rule fails, or there are too many runs. Of
 /// equal keys the last stands, and other fields are ignored.
 pub fn read_job(alloc: Global, bytes: &[u8]) -> Result<Job, JobFail>
-    ensures { Answers (reading_of bytes.now) result }
+    ensures reading { Answers (reading_of bytes.now) result }
+    ensures limits { IfOk result IsJob }
 {
     let value = read_json(alloc, bytes)?;
     if !value.is_object() {
@@ -31,7 +33,8 @@ pub fn read_job(alloc: Global, bytes: &[u8]) -> Result<Job, JobFail>
 }
 
 fn read_fields(alloc: Global, value: &Value) -> Result<Job, JobFail>
-    ensures { Answers (fields_of (view value.now)) result }
+    ensures reading { Answers (fields_of (view value.now)) result }
+    ensures limits { IfOk result IsJob }
 {
     let Some(name) = text_in(value, "image", 1, 4096) else {
         return Err(broken(JobField::Image));
@@ -72,5 +75,4 @@ fn broken(field: JobField) -> JobFail
 pub fn fault_names_first_broken_field()
     ensures { (d : Data) (f : AField)
         → (fields_of d ≡ Err (fault.Field f)) ↔ (first_broken (rules_of d) ≡ Some f) }
-{
-}
+{}

@@ -13,6 +13,7 @@ use serde_json::Value;
 use std::alloc::Global;
 
 const MAX_ROUNDS: usize = 64;
+
 const MAX_INPUT_BYTES: usize = 65_536;
 
 // The rounds in the field `rounds`. None is that its rule fails; so below.
