@@ -9,9 +9,9 @@ use Rattle.cv_shadow.specs.declared.frames.Core.{Core}
 pub record Held : Type 0 where
   pub image : Picture
   pub core : Core
-  pub bytes : List ℕ          -- the byte at each address below the end of the stack
+  pub bytes : List ℕ  -- the byte at each address below the end of the stack
   pub heap : Heap
-  pub input : List ℕ          -- what was not read yet
+  pub input : List ℕ  -- what was not read yet
   pub output : List ℕ
 
 abbrev pub state_of : Held → State

@@ -1,5 +1,5 @@
 ghost use Rattle.std.specs.Prelude.{◌≡◌};
-ghost use Rattle.cv_runs.specs.Arithmetic.{computed, is_taken};
+ghost use Rattle.cv_runs.specs.Arithmetic.{computed, is_taken, signed_lt, shifted_right_signed};
 
 use cv_isa::Op;
 

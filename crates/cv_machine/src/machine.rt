@@ -1,9 +1,10 @@
-ghost use Rattle.std.specs.Prelude.{◌≡◌, ◌≤◌, ℕ, [], length, IfOk, IsTrue, OnErr};
+ghost use Rattle.std.specs.Prelude.{◌≡◌, ◌≤◌, ℕ, [], length, map, IfOk, IsTrue, OnOk, OnErr};
 ghost use Rattle.cv_base.specs.Picture.{is_point, word_at};
+ghost use Rattle.cv_base.specs.Registers.{with_register, zero_registers};
 ghost use Rattle.cv_isa.specs.DecodeTable.{meaning_of};
 ghost use Rattle.cv_mem.specs.Memory.{memory_of};
 ghost use Rattle.cv_runs.specs.PlainTurn.{turn_of, decoded_turn, executed, operated};
-ghost use Rattle.cv_runs.specs.State.{start_state, failed};
+ghost use Rattle.cv_runs.specs.State.{start_core, start_state, failed};
 ghost use Rattle.cv_machine.specs.Answers.{answer_of, left_by};
 ghost use Rattle.cv_machine.specs.Held.{state_of};
 
@@ -11,14 +12,11 @@ use crate::Turn;
 use cv_base::{CrashCause, End, FailureId, FailureKind, Image, Items, NoMemory, Regs, STACK_END};
 use cv_heap::Blocks;
 use cv_isa::{Inst, decode};
-use cv_runs::MOST_OUTPUT;
 use cv_mem::Space;
+use cv_runs::MOST_OUTPUT;
 use cv_shadow::{Core, Frames};
 use std::alloc::Global;
 use std::marker::Model;
-
-
-
 
 /// A hart in the middle of a run, with all that the run has changed. Contracts see the image, the
 /// core, the bytes of memory, the heap, the input that is left and the output.

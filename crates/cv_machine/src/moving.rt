@@ -1,5 +1,6 @@
 ghost use Rattle.std.specs.Prelude.{◌≡◌, ◌≤◌, IsTrue};
 ghost use Rattle.cv_base.specs.Picture.{is_point};
+ghost use Rattle.cv_base.specs.Regions.{is_heap, some_address};
 ghost use Rattle.cv_machine.specs.Answers.{answer_of, left_by};
 ghost use Rattle.cv_machine.specs.Held.{state_of};
 ghost use Rattle.cv_mem.specs.SpaceOf.{IsSize};

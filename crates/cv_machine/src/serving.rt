@@ -1,7 +1,9 @@
-ghost use Rattle.std.specs.Prelude.{◌≡◌, IsTrue};
+ghost use Rattle.std.specs.Prelude.{◌≡◌, ◌≤◌, ◌++◌, true, length, take, drop, IsTrue};
 ghost use Rattle.cv_base.specs.Picture.{is_point};
+ghost use Rattle.cv_base.specs.Regions.{regions_of, is_readable, is_writable, each_address};
 ghost use Rattle.cv_machine.specs.Answers.{answer_of, left_by};
 ghost use Rattle.cv_machine.specs.Held.{state_of};
+ghost use Rattle.cv_mem.specs.Memory.{memory_of, bytes_at, with_bytes};
 ghost use Rattle.cv_runs.specs.Services.{served, read_turn, write_turn, alloc_turn, free_turn, answered};
 
 use crate::{Machine, Turn};
@@ -10,8 +12,11 @@ use cv_runs::MOST_OUTPUT;
 
 /// The errors that a service answers, as negative numbers modulo 2^32.
 const EBADF: u32 = 0xffff_fff7;
+
 const EFAULT: u32 = 0xffff_fff2;
+
 const EINVAL: u32 = 0xffff_ffea;
+
 const ENOSYS: u32 = 0xffff_ffda;
 
 impl Machine {
