@@ -1,0 +1,11 @@
+pub mod Cases
+pub mod Classes
+pub mod Honest
+pub mod Installed
+pub mod Legal
+pub mod Repairs
+pub mod Rows
+pub mod Runs
+pub mod Scores
+pub mod Seen
+pub mod Versions

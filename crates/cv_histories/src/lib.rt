@@ -1,0 +1,8 @@
+//! What a journal of runs says: cases, classes, repairs, scores, versions, when a history is
+//! legal, and its report; as definitions alone (docs/REPAIR.md).
+#![tactic(auto)]
+
+/// The most cases that a history opens.
+pub const MOST_CASES: u32 = 64;
+/// The most candidates that a case keeps.
+pub const MOST_CANDIDATES: u32 = 64;
