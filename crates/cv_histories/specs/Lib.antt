@@ -1,11 +1,17 @@
 pub mod Cases
 pub mod Classes
+pub mod DrillPlan
 pub mod Honest
 pub mod Installed
 pub mod Legal
+pub mod OtherTexts
 pub mod Repairs
+pub mod Report
 pub mod Rows
 pub mod Runs
 pub mod Scores
 pub mod Seen
+pub mod Serial
+pub mod Texts
 pub mod Versions
+pub mod World

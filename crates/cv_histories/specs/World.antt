@@ -1,0 +1,176 @@
+-- The world: instances that draw, enter, turn and post in any order (docs/REPAIR.md, "The world").
+use Rattle.std.specs.Prelude.{ℕ, suc, Bool, true, false, not, ◌&&◌, ◌||◌, ◌==◌, ◌+◌, ◌-◌, nat_lt, if◌then◌else◌, List, [], ◌∷◌, ◌++◌, length, filter, find, map, replicate, reverse, Option, Some, None, is_some, option_map, slice_get, unwrap_or}
+use Rattle.std.specs.List.{list_any, list_all, range_with_len}
+use Rattle.cv_base.specs.declared.entries.Adopted.{Adopted}
+use Rattle.cv_base.specs.declared.entries.Entry.{Entry}
+use Rattle.cv_base.specs.declared.plan.Mode.{Mode}
+use Rattle.cv_base.specs.declared.plan.Mode.TheVariants.{Learn, Live}
+use Rattle.cv_base.specs.declared.plan.Round.{Round}
+use Rattle.cv_base.specs.PlanOf.{PlanOf}
+use Rattle.cv_runs.specs.BlockEntries.{is_entry, since_next}
+use Rattle.cv_runs.specs.PatchedRun.{PatchedStep, PatchedTurn, Table, patched_turn, patched_step, steps_of, notes_of}
+use Rattle.cv_runs.specs.PlainRun.{Step, end_of, state_left}
+use Rattle.cv_runs.specs.PlainTurn.{turn_of}
+use Rattle.cv_runs.specs.State.{State, Outcome, Next, Ended, start_state}
+use Rattle.cv_histories.specs.Rows.{sites_in, checks_in, firings_in, tally_of, fired_of}
+use Rattle.cv_histories.specs.Runs.{Run, run_at, runs}
+use Rattle.cv_histories.specs.Seen.{is_live}
+use Rattle.cv_histories.specs.Versions.{Ledger, ledger, newest_of}
+
+-- a run in flight
+pub record Flight : Type 0 where
+  pub number : ℕ
+  pub run : Run
+  pub state : State                 -- before its next turn
+  pub steps : List PatchedStep      -- so far, the newest first
+  pub since : Option ℕ              -- turns since its last block entry
+  pub transferred : Bool            -- whether its last turn was a transfer
+  pub versions : List ℕ             -- adopted so far, one for each block entry, the newest first
+  pub table : Table                 -- of the version adopted last
+  pub entered : Bool                -- whether it has entered before its next turn
+  pub over : Bool                   -- whether its last turn ended the run
+
+pub record World : Type 0 where
+  pub history : List Entry          -- the newest first
+  pub drawn : ℕ                     -- runs drawn in the current round
+  pub flights : List (Option Flight)
+
+pub data Event : Type 0 where
+  Begin : ℕ → Event
+  Enter : ℕ → Event
+  Turn : ℕ → Event
+  Post : ℕ → Event
+
+abbrev pub start_world : ℕ → World
+start_world instances = record { history = []; drawn = 0; flights = replicate instances None }
+
+-- the numbers of the runs of a round
+abbrev pub numbers_from : ℕ → List Run → ℕ → List ℕ
+numbers_from n [] round = []
+numbers_from n (r ∷ rs) round = if r.round == round then n ∷ numbers_from (n + 1) rs round else numbers_from (n + 1) rs round
+
+abbrev pub numbers_of : PlanOf → ℕ → List ℕ
+numbers_of plan round = numbers_from 0 (runs plan) round
+
+abbrev pub is_posted : List Entry → ℕ → Bool
+is_posted history number = list_any (λ (e : Entry). e.run == number) history
+
+-- the first round with a run that is not posted
+abbrev pub current_round : PlanOf → List Entry → Option ℕ
+current_round plan history =
+    find (λ round. not (list_all (is_posted history) (numbers_of plan round))) (range_with_len 0 (length plan.rounds))
+
+abbrev pub next_draw : PlanOf → World → Option ℕ → Option ℕ
+next_draw plan w None = None
+next_draw plan w (Some round) = slice_get (numbers_of plan round) w.drawn
+
+abbrev pub begun : PlanOf → ℕ → Run → Flight
+begun plan number run = record {
+  number = number; run = run; state = start_state plan.image run.input; steps = []; since = None; transferred = false;
+  versions = []; table = []; entered = false; over = false }
+
+-- a run has ended, by an end or by its budget
+abbrev pub has_ended : PlanOf → Flight → Bool
+has_ended plan f = f.over || (length f.steps == plan.budget)
+
+-- a live run stands before a block entry
+abbrev pub at_entry : Flight → Bool
+at_entry f = is_live f.run.mode && is_entry f.since f.transferred
+
+abbrev pub may_enter : PlanOf → Flight → Bool
+may_enter plan f = not (has_ended plan f) && at_entry f && not f.entered
+
+abbrev pub may_turn : PlanOf → Flight → Bool
+may_turn plan f = not (has_ended plan f) && (not (at_entry f) || f.entered)
+
+abbrev pub entered_with : Ledger → Flight → Flight
+entered_with l f = record f { versions = (length l.versions - 1) ∷ f.versions; table = newest_of l.versions; entered = true }
+
+-- one turn, patched in a live run and plain in a learn run
+abbrev pub turned_by : Flight → PatchedStep → Outcome → Flight
+turned_by f step (Next next transfer) = record f {
+  state = next; steps = step ∷ f.steps; since = since_next step.enters f.since; transferred = transfer; entered = false }
+turned_by f step (Ended end) = record f { steps = step ∷ f.steps; over = true; entered = false }
+
+abbrev pub flight_turn : PlanOf → Flight → PatchedTurn
+flight_turn plan f =
+    elim (is_live f.run.mode) [
+      true ↦ patched_turn plan.image f.table f.state
+    | false ↦ record { notes = []; outcome = turn_of plan.image f.state } ]
+
+abbrev pub turned_with : Flight → PatchedTurn → Flight
+turned_with f turn = turned_by f (patched_step f.state (is_entry f.since f.transferred) turn) turn.outcome
+
+abbrev pub turned : PlanOf → Flight → Flight
+turned plan f = turned_with f (flight_turn plan f)
+
+-- versions with equal neighbours joined; from the newest first to the oldest first
+abbrev pub joined_on : ℕ → List Adopted → List Adopted
+joined_on v [] = record { version = v; entries = 1 } ∷ []
+joined_on v (a ∷ rest) =
+    if a.version == v then record { version = v; entries = a.entries + 1 } ∷ rest else record { version = v; entries = 1 } ∷ a ∷ rest
+
+abbrev pub joined : List ℕ → List Adopted
+joined [] = []
+joined (v ∷ vs) = joined_on v (joined vs)
+
+-- the entry of an ended run of instance i
+abbrev pub flight_entry : PlanOf → ℕ → Flight → Entry
+flight_entry plan i f =
+    let steps = reverse f.steps in record {
+      run = f.number; worker = i; mode = f.run.mode; adopted = reverse (joined f.versions);
+      end = end_of (steps_of steps); turns = length steps; sites = sites_in (steps_of steps);
+      output = (state_left (start_state plan.image f.run.input) (steps_of steps)).output;
+      tally = tally_of (checks_in (notes_of steps)); fired = fired_of (firings_in (notes_of steps)) }
+
+-- the list with a new value at place i, which exists
+abbrev pub set_flight : List (Option Flight) → ℕ → Option Flight → List (Option Flight)
+set_flight [] i f = []
+set_flight (x ∷ xs) i f = if i == 0 then f ∷ xs else x ∷ set_flight xs (i - 1) f
+
+abbrev pub with_flight : World → ℕ → Option Flight → World
+with_flight w i f = record w { flights = set_flight w.flights i f }
+
+-- after a post the draws begin anew where the round is over
+abbrev pub drawn_after : PlanOf → List Entry → List Entry → ℕ → ℕ
+drawn_after plan before now drawn =
+    if same_round (current_round plan before) (current_round plan now) then drawn else 0
+  where
+    same_round : Option ℕ → Option ℕ → Bool
+    same_round (Some a) (Some b) = a == b
+    same_round _ _ = false
+
+abbrev pub begin_with : PlanOf → World → ℕ → Option ℕ → Option World
+begin_with plan w i None = None
+begin_with plan w i (Some number) =
+    option_map (λ run. record (with_flight w i (Some (begun plan number run))) { drawn = w.drawn + 1 }) (run_at plan number)
+
+abbrev pub post_with : PlanOf → World → ℕ → Entry → World
+post_with plan w i e =
+    record (with_flight w i None) { history = e ∷ w.history; drawn = drawn_after plan w.history (e ∷ w.history) w.drawn }
+
+-- the world after an event, None where the event is not enabled; `flight` is what the instance has
+abbrev pub event_at : PlanOf → World → Event → Option (Option Flight) → Option World
+event_at plan w event None = None
+event_at plan w (Begin i) (Some None) = begin_with plan w i (next_draw plan w (current_round plan w.history))
+event_at plan w (Begin i) (Some (Some f)) = None
+event_at plan w event (Some None) = None
+event_at plan w (Enter i) (Some (Some f)) =
+    elim (may_enter plan f) [ true ↦ Some (with_flight w i (Some (entered_with (ledger plan w.history) f))) | false ↦ None ]
+event_at plan w (Turn i) (Some (Some f)) =
+    elim (may_turn plan f) [ true ↦ Some (with_flight w i (Some (turned plan f))) | false ↦ None ]
+event_at plan w (Post i) (Some (Some f)) =
+    elim (has_ended plan f) [ true ↦ Some (post_with plan w i (flight_entry plan i f)) | false ↦ None ]
+
+abbrev pub instance_of : Event → ℕ
+instance_of (Begin i) = i
+instance_of (Enter i) = i
+instance_of (Turn i) = i
+instance_of (Post i) = i
+
+abbrev pub event : PlanOf → World → Event → Option World
+event plan w e = event_at plan w e (slice_get w.flights (instance_of e))
+
+-- an event that is not enabled changes nothing
+abbrev pub after_event : PlanOf → World → Event → World
+after_event plan w e = unwrap_or (event plan w e) w
