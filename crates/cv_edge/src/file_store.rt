@@ -1,5 +1,5 @@
-ghost use Rattle.std.specs.Prelude.{◌≡◌, ℕ, List, Option, None, ◌+◌, ◌^◌, ◌<◌, ◌≤◌, IfOk, IfSome, IsErrOf, vec_len};
-ghost use Rattle.cv_edge.specs.Edge.{IsSized, Asked, HasCause, counted};
+ghost use Rattle.std.specs.Prelude.{◌≡◌, ◌≢◌, None, ◌≤◌, take, IfOk, IfSome, IsErrOf, vec_len};
+ghost use Rattle.cv_edge.specs.Edge.{IsSized, HasCause, counted};
 
 use crate::counts::one_more;
 use crate::{FetchFail, Fetched, Store};
@@ -45,7 +45,12 @@ impl<'a, R: Files> Store for FileStore<'a, R> {
     /// Answers Missing where the opening says that no such file is there. Whatever else keeps the
     /// file from being read is a fault: a directory, a path through a plain file, a name that no
     /// file can have. Reads at most `limit` + 1 bytes.
-    fn fetch(&mut self, alloc: Global, name: &str, limit: u32) -> Result<Fetched, FetchFail> {
+    fn fetch(&mut self, alloc: Global, name: &str, limit: u32) -> Result<Fetched, FetchFail>
+        ensures sized { IfOk result (IsSized limit) }
+        ensures failed { IsErrOf result FetchFail.Failed → self.new ≡ counted self.old }
+        ensures cause { HasCause self.old self.new (IsErrOf result FetchFail.Failed) }
+        ensures other { result ≢ Err FetchFail.Failed → self.new ≡ self.old }
+    {
         let answer = read_file(self.files, alloc, name, limit);
         if let Err(FetchFail::Failed) = answer {
             self.faults = one_more(self.faults);
@@ -55,7 +60,12 @@ impl<'a, R: Files> Store for FileStore<'a, R> {
 }
 
 /// The file of a name, or its first `limit` + 1 bytes where it is longer.
-fn read_file<R: Files>(files: &R, alloc: Global, name: &str, limit: u32) -> Result<Fetched, FetchFail>
+fn read_file<R: Files>(
+    files: &R,
+    alloc: Global,
+    name: &str,
+    limit: u32,
+) -> Result<Fetched, FetchFail>
     ensures { IfOk result (IsSized limit) }
 {
     let mut file = match fs::open(files, name) {
@@ -79,7 +89,8 @@ fn read_file<R: Files>(files: &R, alloc: Global, name: &str, limit: u32) -> Resu
 
 /// The bytes of a reader up to its end, and at most `most` of them.
 fn read_up_to<F: Read>(file: &mut F, alloc: Global, most: usize) -> Result<Vec<u8>, FetchFail>
-    ensures { IfOk result (λ bytes. vec_len bytes ≤ most) }
+    ensures few { IfOk result (λ bytes. vec_len bytes ≤ most) }
+    ensures first { IfOk result (λ bytes. IfSome (F.remaining file.old) (λ rest. bytes.items ≡ take most rest)) }
 {
     let mut bytes = Vec::new(alloc);
     let mut buffer = [0u8; CHUNK];

@@ -1,13 +1,18 @@
-use crate::{Failed, FetchFail, Fetched, FileStore, MemSink, MemStore, Sink, StdSink, Store, write_all};
-use std::fs;
-use std::io;
+use crate::{
+    Failed, FetchFail, Fetched, FileStore, MemSink, MemStore, Sink, StdSink, Store, write_all,
+};
 use std::io::Write;
 use std::test::Fail;
+use std::{fs, io};
 
 const MISSING: &str = "missing";
+
 const WHOLE: &str = "whole";
+
 const LONGER: &str = "longer";
+
 const FAILED: &str = "failed";
+
 const NO_MEMORY: &str = "no memory";
 
 fn kind_of(answer: &Result<Fetched, FetchFail>) -> &'static str {
@@ -62,7 +67,10 @@ fn a_sink_in_memory_takes_pieces_until_it_fails_or_is_full(rt: HostRuntime) -> R
     assert_eq!(rt; write_all(&mut sink, text), Err(Failed));
     assert_eq!(rt; sink.bytes(), b"0123456789".as_slice());
     assert_eq!(rt; write_all(&mut sink, text), Ok(()));
-    assert_eq!(rt; sink.bytes(), b"01234567890123456789abcdefghijklmno".as_slice());
+    assert_eq!(rt;
+        sink.bytes(),
+        b"01234567890123456789abcdefghijklmno".as_slice()
+    );
     assert_eq!(rt; write_all(&mut sink, text), Ok(()));
     assert_eq!(rt; sink.bytes().len(), 60);
     assert_eq!(rt; write_all(&mut sink, b""), Ok(()));
