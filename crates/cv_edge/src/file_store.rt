@@ -1,5 +1,5 @@
-ghost use Rattle.std.specs.Prelude.{◌≡◌, ◌≢◌, None, ◌≤◌, take, IfOk, IfSome, IsErrOf, vec_len};
-ghost use Rattle.cv_edge.specs.Edge.{IsSized, HasCause, counted};
+ghost use Rattle.std.specs.Prelude.{◌≡◌, ◌≢◌, Some, None, ◌≤◌, take, IfOk, IfSome, IsErrOf, vec_len};
+ghost use Rattle.cv_edge.specs.Edge.{fetched_of, IsSized, HasCause, counted};
 
 use crate::counts::one_more;
 use crate::{FetchFail, Fetched, Store};
@@ -68,18 +68,20 @@ fn read_file<R: Files>(
 ) -> Result<Fetched, FetchFail>
     ensures { IfOk result (IsSized limit) }
 {
-    let mut file = match fs::open(files, name) {
-        Ok(file) => file,
-        Err(error) => {
-            return if error.kind() == ErrorKind::NotFound {
-                Ok(Fetched::Missing)
-            } else {
-                Err(FetchFail::Failed)
-            };
-        }
-    };
+    match fs::open(files, name) {
+        Ok(mut file) => read_limited(&mut file, alloc, limit),
+        Err(error) if error.kind() == ErrorKind::NotFound => Ok(Fetched::Missing),
+        Err(_) => Err(FetchFail::Failed),
+    }
+}
+
+/// What a fetch answers of a reader's bytes. It reads at most `limit` + 1 of them.
+fn read_limited<F: Read>(file: &mut F, alloc: Global, limit: u32) -> Result<Fetched, FetchFail>
+    ensures sized { IfOk result (IsSized limit) }
+    ensures exact { IfOk result (λ f. IfSome (F.remaining file.old) (λ rest. f ≡ fetched_of (Some rest) limit)) }
+{
     let limit = limit as usize;
-    let bytes = read_up_to(&mut file, alloc, limit + 1)?;
+    let bytes = read_up_to(file, alloc, limit + 1)?;
     if bytes.len() <= limit {
         Ok(Fetched::Whole(Items::from_vec(bytes)))
     } else {
