@@ -83,7 +83,7 @@ fn a_sink_in_memory_takes_pieces_until_it_fails_or_is_full(rt: HostRuntime) -> R
 fn a_store_of_files_tells_a_missing_file_from_a_fault(rt: HostRuntime) -> Result<(), Fail> {
     fs::write(&rt, "abc", "abc")?;
     fs::write(&rt, "empty", "")?;
-    fs::create_dir(&rt, "folder")?;
+    fs::create_dir_all(&rt, "folder")?;
     let long = vec![in rt.alloc(); 7u8; 9000]?;
     fs::write(&rt, "long", long.as_slice())?;
     let name_too_long = str::from_utf8(&[b'n'; 300]).unwrap_or("");
@@ -127,11 +127,14 @@ impl Write for Sated {
 #[test]
 fn a_sink_over_a_writer_writes_or_fails(rt: HostRuntime) -> Result<(), Fail> {
     {
-        let mut sink = StdSink::over(fs::create(&rt, "out")?);
+        let mut sink = StdSink::over(fs::create(&rt, "written")?);
         assert_eq!(rt; write_all(&mut sink, b"some text"), Ok(()));
     }
-    assert_eq!(rt; fs::read(&rt, "out")?.as_slice(), b"some text".as_slice());
-    let mut only_read = StdSink::over(fs::open(&rt, "out")?);
+    assert_eq!(rt;
+        fs::read(&rt, "written")?.as_slice(),
+        b"some text".as_slice()
+    );
+    let mut only_read = StdSink::over(fs::open(&rt, "written")?);
     assert_eq!(rt; only_read.write(b"x"), Err(Failed));
     let mut sated = StdSink::over(Sated);
     assert_eq!(rt; sated.write(b"x"), Err(Failed));
