@@ -1,4 +1,4 @@
-use Rattle.std.proofs.Common.{◌≡◌, ℕ, ◌+◌, ◌≤◌, List, ◌++◌, take, drop, length, Option, Some, None, sym, ap, ◌∙◌, arith, append_assoc, length-drop}
+use Rattle.std.proofs.Common.{ℕ, ◌+◌, ◌≤◌, List, ◌++◌, take, drop, length, Option, Some, None, sym, ap, ◌∙◌, arith, append_assoc, length-drop}
 use Rattle.std.proofs.Math.Seq.{take-add}
 use Rattle.std.proofs.lemmas.List.{take-take, length-take}
 use Rattle.cv_edge.specs.Edge.{Appends}
@@ -17,8 +17,8 @@ pub appends_more : (old mid new : Option (List ℕ)) (text : List ℕ) (done cou
 appends_more None None None text done count n taken a b = tt
 appends_more (Some old) (Some mid) (Some new) text done count n taken a b =
     b ∙ ap (λ x. x ++ take n (take count (drop done text))) a ∙ append_assoc old (take done text) _
-      ∙ ap (λ x. old ++ (take done text ++ x)) (take-take n count (drop done text) (piece_within text done count n taken))
-      ∙ ap (λ x. old ++ x) (sym (take-add done n text))
+    ∙ ap (λ x. old ++ (take done text ++ x)) (take-take n count (drop done text) (piece_within text done count n taken))
+    ∙ ap (λ x. old ++ x) (sym (take-add done n text))
 appends_more None (Some mid) new text done count n taken a b = absurd a
 appends_more (Some old) None new text done count n taken a b = absurd a
 appends_more None None (Some new) text done count n taken a b = absurd b

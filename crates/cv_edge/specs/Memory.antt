@@ -1,5 +1,5 @@
 -- What the store and the sink in memory hold, and what a call leaves of it.
-use Rattle.std.specs.Prelude.{ℕ, Bool, ◌==◌, ◌||◌, ◌-◌, min, nat_le, if◌then◌else◌, List, ◌∷◌, ◌++◌, length, take, find, Option}
+use Rattle.std.specs.Prelude.{ℕ, Bool, ◌==◌, ◌||◌, ◌-◌, min, nat_le, if◌then◌else◌, List, ◌++◌, length, take, find, Option}
 use Rattle.std.specs.List.{list_any}
 use Rattle.std.specs.Option.{option_map}
 use Rattle.std.specs.Str.{bytes_eq}
@@ -29,7 +29,7 @@ held_of s = record { file = file_in s.files; fetches = s.fetches }
 abbrev pub after_fetch : Shelf → Shelf
 after_fetch s = record s {
   fetches = counted s.fetches;
-  faults = (if fails_next s.failing s.fetches then counted s.faults else s.faults)
+  faults = (if fails_next s.failing s.fetches then counted s.faults else s.faults);
 }
 
 -- a sink in memory: the bytes written, how many have room, how many one write takes, and the calls that are to fail

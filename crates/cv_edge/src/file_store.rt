@@ -1,5 +1,5 @@
-ghost use Rattle.std.specs.Prelude.{◌≡◌, ℕ, List, Option, None, ◌+◌, ◌^◌, ◌<◌, ◌≤◌, IfOk, IfSome, IsErrOf, vec_len};
-ghost use Rattle.cv_edge.specs.Edge.{IsSized, Asked, HasCause, counted};
+ghost use Rattle.std.specs.Prelude.{◌≡◌, ◌≢◌, Some, None, ◌≤◌, take, IfOk, IfSome, IsErrOf, vec_len};
+ghost use Rattle.cv_edge.specs.Edge.{fetched_of, IsSized, HasCause, counted};
 
 use crate::counts::one_more;
 use crate::{FetchFail, Fetched, Store};
@@ -45,7 +45,12 @@ impl<'a, R: Files> Store for FileStore<'a, R> {
     /// Answers Missing where the opening says that no such file is there. Whatever else keeps the
     /// file from being read is a fault: a directory, a path through a plain file, a name that no
     /// file can have. Reads at most `limit` + 1 bytes.
-    fn fetch(&mut self, alloc: Global, name: &str, limit: u32) -> Result<Fetched, FetchFail> {
+    fn fetch(&mut self, alloc: Global, name: &str, limit: u32) -> Result<Fetched, FetchFail>
+        ensures sized { IfOk result (IsSized limit) }
+        ensures failed { IsErrOf result FetchFail.Failed → self.new ≡ counted self.old }
+        ensures cause { HasCause self.old self.new (IsErrOf result FetchFail.Failed) }
+        ensures other { result ≢ Err FetchFail.Failed → self.new ≡ self.old }
+    {
         let answer = read_file(self.files, alloc, name, limit);
         if let Err(FetchFail::Failed) = answer {
             self.faults = one_more(self.faults);
@@ -55,21 +60,28 @@ impl<'a, R: Files> Store for FileStore<'a, R> {
 }
 
 /// The file of a name, or its first `limit` + 1 bytes where it is longer.
-fn read_file<R: Files>(files: &R, alloc: Global, name: &str, limit: u32) -> Result<Fetched, FetchFail>
+fn read_file<R: Files>(
+    files: &R,
+    alloc: Global,
+    name: &str,
+    limit: u32,
+) -> Result<Fetched, FetchFail>
     ensures { IfOk result (IsSized limit) }
 {
-    let mut file = match fs::open(files, name) {
-        Ok(file) => file,
-        Err(error) => {
-            return if error.kind() == ErrorKind::NotFound {
-                Ok(Fetched::Missing)
-            } else {
-                Err(FetchFail::Failed)
-            };
-        }
-    };
+    match fs::open(files, name) {
+        Ok(mut file) => read_limited(&mut file, alloc, limit),
+        Err(error) if error.kind() == ErrorKind::NotFound => Ok(Fetched::Missing),
+        Err(_) => Err(FetchFail::Failed),
+    }
+}
+
+/// What a fetch answers of a reader's bytes. It reads at most `limit` + 1 of them.
+fn read_limited<F: Read>(file: &mut F, alloc: Global, limit: u32) -> Result<Fetched, FetchFail>
+    ensures sized { IfOk result (IsSized limit) }
+    ensures exact { IfOk result (λ f. IfSome (F.remaining file.old) (λ rest. f ≡ fetched_of (Some rest) limit)) }
+{
     let limit = limit as usize;
-    let bytes = read_up_to(&mut file, alloc, limit + 1)?;
+    let bytes = read_up_to(file, alloc, limit + 1)?;
     if bytes.len() <= limit {
         Ok(Fetched::Whole(Items::from_vec(bytes)))
     } else {
@@ -79,7 +91,8 @@ fn read_file<R: Files>(files: &R, alloc: Global, name: &str, limit: u32) -> Resu
 
 /// The bytes of a reader up to its end, and at most `most` of them.
 fn read_up_to<F: Read>(file: &mut F, alloc: Global, most: usize) -> Result<Vec<u8>, FetchFail>
-    ensures { IfOk result (λ bytes. vec_len bytes ≤ most) }
+    ensures few { IfOk result (λ bytes. vec_len bytes ≤ most) }
+    ensures first { IfOk result (λ bytes. IfSome (F.remaining file.old) (λ rest. bytes.items ≡ take most rest)) }
 {
     let mut bytes = Vec::new(alloc);
     let mut buffer = [0u8; CHUNK];

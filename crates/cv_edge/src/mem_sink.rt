@@ -1,6 +1,5 @@
-ghost use Rattle.std.specs.Prelude.{◌≡◌, ℕ, List, [], ◌∷◌, ◌++◌, Option, Some, ◌+◌, ◌^◌, ◌<◌, ◌≤◌, length, take, IfOk, OnOk, OnErr, IsErr, IsTrue, ◌↔◌};
-ghost use Rattle.cv_edge.specs.Edge.{Appends, Keeps, HasCause};
-ghost use Rattle.cv_edge.specs.Memory.{Buffer, refuses, takes, after_write};
+ghost use Rattle.std.specs.Prelude.{◌≡◌, [], ◌∷◌, ◌++◌, Some, ◌^◌, ◌<◌, ◌≤◌, length, IfOk, OnOk, OnErr, IsErr, IsTrue, ◌↔◌};
+ghost use Rattle.cv_edge.specs.Memory.{refuses, takes, after_write};
 
 use crate::counts::{fails_next, one_more};
 use crate::{Failed, Sink};

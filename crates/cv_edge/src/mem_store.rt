@@ -1,9 +1,9 @@
-ghost use Rattle.std.specs.Prelude.{◌≡◌, ℕ, List, [], ◌∷◌, ◌++◌, Option, Some, IfOk, IfSome, OnOk, OnErr, IsErrOf, IsTrue, ◌↔◌, if◌then◌else◌, find, reverse};
+ghost use Rattle.std.specs.Prelude.{◌≡◌, ℕ, List, [], ◌∷◌, ◌++◌, Some, IfOk, OnOk, OnErr, IsErrOf, IsTrue, ◌↔◌, if◌then◌else◌, reverse};
 ghost use Rattle.std.specs.Option.{option_map, option_copied};
 ghost use Rattle.cv_edge.specs.declared.mem_store.MemFile.{MemFile};
 ghost use Rattle.std.specs.Str.{bytes_eq};
-ghost use Rattle.cv_edge.specs.Edge.{Held, fetched_of, IsSized, Asked, HasCause};
-ghost use Rattle.cv_edge.specs.Memory.{Shelf, file_in, held_of, fails_next, after_fetch};
+ghost use Rattle.cv_edge.specs.Edge.{fetched_of};
+ghost use Rattle.cv_edge.specs.Memory.{file_in, held_of, fails_next, after_fetch};
 
 use crate::counts::{fails_next, one_more};
 use crate::{FetchFail, Fetched, Store};

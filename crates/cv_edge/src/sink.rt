@@ -1,4 +1,4 @@
-ghost use Rattle.std.specs.Prelude.{◌≡◌, ℕ, List, Option, ◌+◌, ◌^◌, ◌<◌, ◌≤◌, length, take, IfOk, OnOk, OnErr, IsErr};
+ghost use Rattle.std.specs.Prelude.{◌≡◌, ℕ, List, Option, ◌^◌, ◌<◌, ◌≤◌, length, take, IfOk, OnOk, OnErr, IsErr};
 ghost use Rattle.cv_edge.specs.Edge.{Appends, AppendsPrefix, Keeps, HasCause};
 
 /// A fault of the outside, which whoever answers it has counted.

@@ -1,5 +1,6 @@
-ghost use Rattle.std.specs.Prelude.{◌≡◌, ℕ, List, Option, None, ◌+◌, ◌^◌, ◌<◌, ◌≤◌, length, take, IfOk, IfSome, OnErr, IsErr};
-ghost use Rattle.cv_edge.specs.Edge.{Appends, Keeps, HasCause, counted};
+ghost use Rattle.std.specs.Prelude.{◌≡◌, None, ◌^◌, ◌<◌, ◌≤◌, length, take, IfOk, IfSome, IfNone, OnOk, OnErr};
+ghost use Rattle.std.specs.Io.KnownBytes.{Appends, Keeps};
+ghost use Rattle.cv_edge.specs.Edge.{counted};
 
 use crate::counts::one_more;
 use crate::{Failed, Sink};
@@ -38,7 +39,13 @@ impl<W: Write> Sink for StdSink<W> {
     ghost faults = { λ faults. faults };
 
     /// A writer that takes nothing is a fault.
-    fn write(&mut self, piece: &[u8]) -> Result<u32, Failed> {
+    fn write(&mut self, piece: &[u8]) -> Result<u32, Failed>
+        requires some { 0 < length piece.now }
+        requires short { length piece.now < 2 ^ 32 }
+        ensures within { IfOk result (λ n. (1 ≤ n) × (n ≤ length piece.now)) }
+        ensures failed { OnErr result (self.new ≡ counted self.old) }
+        ensures other { OnOk result (self.new ≡ self.old) }
+    {
         match write_some(&mut self.to, piece) {
             Some(count) => Ok(count),
             None => {
@@ -52,7 +59,9 @@ impl<W: Write> Sink for StdSink<W> {
 /// How many first bytes of a piece the writer took, at least one; None where it failed.
 fn write_some<W: Write>(to: &mut W, piece: &[u8]) -> Option<u32>
     requires { length piece.now < 2 ^ 32 }
-    ensures { IfSome result (λ n. (1 ≤ n) × (n ≤ length piece.now)) }
+    ensures within { IfSome result (λ n. (1 ≤ n) × (n ≤ length piece.now)) }
+    ensures taken { IfSome result (λ n. Appends (W.contents to.old) (W.contents to.new) (take n piece.now)) }
+    ensures kept { IfNone result (Keeps (W.contents to.old) (W.contents to.new)) }
 {
     // A write that was interrupted is tried again.
     for _ in 0..u64::MAX {

@@ -1,13 +1,18 @@
-use crate::{Failed, FetchFail, Fetched, FileStore, MemSink, MemStore, Sink, StdSink, Store, write_all};
-use std::fs;
-use std::io;
+use crate::{
+    Failed, FetchFail, Fetched, FileStore, MemSink, MemStore, Sink, StdSink, Store, write_all,
+};
 use std::io::Write;
 use std::test::Fail;
+use std::{fs, io};
 
 const MISSING: &str = "missing";
+
 const WHOLE: &str = "whole";
+
 const LONGER: &str = "longer";
+
 const FAILED: &str = "failed";
+
 const NO_MEMORY: &str = "no memory";
 
 fn kind_of(answer: &Result<Fetched, FetchFail>) -> &'static str {
@@ -62,7 +67,10 @@ fn a_sink_in_memory_takes_pieces_until_it_fails_or_is_full(rt: HostRuntime) -> R
     assert_eq!(rt; write_all(&mut sink, text), Err(Failed));
     assert_eq!(rt; sink.bytes(), b"0123456789".as_slice());
     assert_eq!(rt; write_all(&mut sink, text), Ok(()));
-    assert_eq!(rt; sink.bytes(), b"01234567890123456789abcdefghijklmno".as_slice());
+    assert_eq!(rt;
+        sink.bytes(),
+        b"01234567890123456789abcdefghijklmno".as_slice()
+    );
     assert_eq!(rt; write_all(&mut sink, text), Ok(()));
     assert_eq!(rt; sink.bytes().len(), 60);
     assert_eq!(rt; write_all(&mut sink, b""), Ok(()));
@@ -75,7 +83,7 @@ fn a_sink_in_memory_takes_pieces_until_it_fails_or_is_full(rt: HostRuntime) -> R
 fn a_store_of_files_tells_a_missing_file_from_a_fault(rt: HostRuntime) -> Result<(), Fail> {
     fs::write(&rt, "abc", "abc")?;
     fs::write(&rt, "empty", "")?;
-    fs::create_dir(&rt, "folder")?;
+    fs::create_dir_all(&rt, "folder")?;
     let long = vec![in rt.alloc(); 7u8; 9000]?;
     fs::write(&rt, "long", long.as_slice())?;
     let name_too_long = str::from_utf8(&[b'n'; 300]).unwrap_or("");
@@ -119,11 +127,14 @@ impl Write for Sated {
 #[test]
 fn a_sink_over_a_writer_writes_or_fails(rt: HostRuntime) -> Result<(), Fail> {
     {
-        let mut sink = StdSink::over(fs::create(&rt, "out")?);
+        let mut sink = StdSink::over(fs::create(&rt, "written")?);
         assert_eq!(rt; write_all(&mut sink, b"some text"), Ok(()));
     }
-    assert_eq!(rt; fs::read(&rt, "out")?.as_slice(), b"some text".as_slice());
-    let mut only_read = StdSink::over(fs::open(&rt, "out")?);
+    assert_eq!(rt;
+        fs::read(&rt, "written")?.as_slice(),
+        b"some text".as_slice()
+    );
+    let mut only_read = StdSink::over(fs::open(&rt, "written")?);
     assert_eq!(rt; only_read.write(b"x"), Err(Failed));
     let mut sated = StdSink::over(Sated);
     assert_eq!(rt; sated.write(b"x"), Err(Failed));
