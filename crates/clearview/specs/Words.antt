@@ -4,17 +4,11 @@ use Rattle.std.specs.List.{list_all}
 use Rattle.std.specs.Result.{result_ok}
 use Rattle.std.specs.Str.{bytes_eq}
 use Rattle.hex.specs.Decode.{decode_of}
+use Rattle.cv_job.specs.Fields.{within}
 
 pub data Command : Type 0 where
   Plain : List ℕ → ℕ → List ℕ → Command      -- image's name, budget, input
   Check : List ℕ → Command                   -- job's name
-
-abbrev pub within : ℕ → ℕ → ℕ → Bool
-within low high n = nat_le low n && nat_le n high
-
-abbrev pub only_if : {A : Type 0} → (A → Bool) → Option A → Option A
-only_if test None = None
-only_if test (Some a) = if test a then Some a else None
 
 -- a file's name: not empty, and does not begin with `-`
 abbrev pub is_name : List ℕ → Bool
