@@ -11,7 +11,8 @@ use Rattle.std.proofs.lemmas.List.{get_or_default}
 use Rattle.std.proofs.lemmas.List.Folds.{list_any_at, list_any_none}
 use Rattle.cv_heap.specs.declared.blocks.Block.{Block}
 use Rattle.cv_heap.specs.Heap.{Heap, without_block}
-use Rattle.cv_heap.specs.Kept.{AreApart, NoneBegins, BeginsAt, NoneBegun, IsLastBegun}
+use Rattle.cv_heap.specs.Kept.{AreApart}
+use Rattle.cv_heap.specs.Found.{NoneBegins, BeginsAt, NoneBegun, IsLastBegun}
 
 -- the test fails of each element but the one at i
 abbrev pub AloneAt : {X : Type 0} → (X → Bool) → List X → ℕ → Type 0

@@ -1,6 +1,7 @@
 ghost use Rattle.std.specs.Prelude.{◌≡◌, ◌==◌, ◌≤◌, ◌+◌, ◌<◌, if◌then◌else◌, Some, None, IfOk, length, MatchOption};
 ghost use Rattle.cv_heap.specs.Heap.{empty_heap, has_room, with_block, begins_block, without_block, covers};
-ghost use Rattle.cv_heap.specs.Kept.{AreApart, IsHeap, NoneBegins, BeginsAt, NoneBegun, IsLastBegun};
+ghost use Rattle.cv_heap.specs.Kept.{AreApart, IsHeap};
+ghost use Rattle.cv_heap.specs.Found.{NoneBegins, BeginsAt, NoneBegun, IsLastBegun};
 
 use crate::MOST_BLOCKS;
 use cv_base::{HEAP_START, NoMemory, STACK_START};
