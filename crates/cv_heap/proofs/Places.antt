@@ -5,7 +5,7 @@ use Rattle.std.specs.List.Sorted.{IsNonDecreasingBy, IsPartitionPoint, IsSearchI
 use Rattle.std.specs.Option.{SomeIff, MatchOption}
 use Rattle.std.specs.Ordering.{nat_cmp, ordering_index}
 use Rattle.std.specs.Result.{result_ok}
-use Rattle.std.proofs.lemmas.Bool.{cases_Bool, cases_eq, cases_lt, cases_order, ne_eqb, eq-eqb, le-leb, lt-leb, leb-true, leb-false, and_left, and_right}
+use Rattle.std.proofs.lemmas.Bool.{cases_Bool, cases_eq, cases_lt, cases_order, ne_eqb, eq-eqb, lt-leb, leb-true, leb-false, and_left, and_right}
 use Rattle.std.proofs.lemmas.Bool.Decides.{nat_tests}
 use Rattle.std.proofs.lemmas.List.{get_or_default}
 use Rattle.std.proofs.lemmas.List.Folds.{list_any_at, list_any_none}
@@ -70,13 +70,10 @@ holds_alone blocks a count i some apart last =
       | inr (inr after) ↦ and_left _ _ (lt-leb _ _ (last.later k d (omega arith) h))
     ]
 
-pub covers_last : (blocks : List Block) (a count i : ℕ) (b : Block) → 1 ≤ count → AreApart blocks → IsLastBegun blocks a i → b ≡ get_or blocks i b → leb (a + count) (b.place + b.size) ≡ list_any (λ (b : Block). leb b.place a && leb (a + count) (b.place + b.size)) blocks
+pub covers_last : (blocks : List Block) (a count i : ℕ) (b : Block) → 1 ≤ count → AreApart blocks → IsLastBegun blocks a i → b ≡ get_or blocks i b → (leb b.place a && leb (a + count) (b.place + b.size)) ≡ list_any (λ (b : Block). leb b.place a && leb (a + count) (b.place + b.size)) blocks
 covers_last blocks a count i b some apart last read =
-    let begun : leb b.place a ≡ true = le-leb _ _ (rw read (last.begun b)) in
-    let whole : list_any (λ (b : Block). leb b.place a && leb (a + count) (b.place + b.size)) blocks ≡ (leb b.place a && leb (a + count) (b.place + b.size)) =
-    list_any_alone (λ (b : Block). leb b.place a && leb (a + count) (b.place + b.size)) blocks i b last.within (holds_alone blocks a count i some apart last)
-    ∙ ap (λ (b : Block). leb b.place a && leb (a + count) (b.place + b.size)) (sym read) in
-    sym (whole ∙ ap (λ t. t && leb (a + count) (b.place + b.size)) begun)
+    ap (λ (b : Block). leb b.place a && leb (a + count) (b.place + b.size)) read
+    ∙ sym (list_any_alone (λ (b : Block). leb b.place a && leb (a + count) (b.place + b.size)) blocks i b last.within (holds_alone blocks a count i some apart last))
 
 pub covers_none : (blocks : List Block) (a count : ℕ) → NoneBegun blocks a → list_any (λ (b : Block). leb b.place a && leb (a + count) (b.place + b.size)) blocks ≡ false
 covers_none blocks a count none = list_any_none _ blocks (λ k d h. and_left _ _ (lt-leb _ _ (none k d h)))
