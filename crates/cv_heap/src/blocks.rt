@@ -97,10 +97,8 @@ impl Blocks {
         }
     }
 
-    /// Whether the `len` bytes from an address on, of which there is one at least, lie inside one
-    /// live block.
+    /// Whether the `len` bytes from an address on lie inside one live block.
     pub fn covers(&self, addr: u32, len: u32) -> bool
-        requires { 1 ≤ len }
         ensures { result ≡ covers self.now addr len }
     {
         match last_begun(self.blocks.as_slice(), addr) {
