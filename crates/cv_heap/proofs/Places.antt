@@ -5,13 +5,14 @@ use Rattle.std.specs.List.Sorted.{IsNonDecreasingBy, IsPartitionPoint, IsSearchI
 use Rattle.std.specs.Option.{SomeIff, MatchOption}
 use Rattle.std.specs.Ordering.{nat_cmp, ordering_index}
 use Rattle.std.specs.Result.{result_ok}
-use Rattle.std.proofs.lemmas.Bool.{cases_Bool, cases_eq, cases_lt, cases_order, ne_eqb, eq-eqb, le-leb, lt-leb, leb-true, leb-false, and_left, and_right}
+use Rattle.std.proofs.lemmas.Bool.{cases_Bool, cases_eq, cases_lt, cases_order, ne_eqb, eq-eqb, lt-leb, leb-true, leb-false, and_left, and_right}
 use Rattle.std.proofs.lemmas.Bool.Decides.{nat_tests}
 use Rattle.std.proofs.lemmas.List.{get_or_default}
 use Rattle.std.proofs.lemmas.List.Folds.{list_any_at, list_any_none}
 use Rattle.cv_heap.specs.declared.blocks.Block.{Block}
 use Rattle.cv_heap.specs.Heap.{Heap, without_block}
-use Rattle.cv_heap.specs.Kept.{AreApart, NoneBegins, BeginsAt, NoneBegun, IsLastBegun}
+use Rattle.cv_heap.specs.Kept.{AreApart}
+use Rattle.cv_heap.specs.Found.{NoneBegins, BeginsAt, NoneBegun, IsLastBegun}
 
 -- the test fails of each element but the one at i
 abbrev pub AloneAt : {X : Type 0} → (X → Bool) → List X → ℕ → Type 0
@@ -57,9 +58,9 @@ begins_alone blocks a i apart at =
       | inr (inr after) ↦ omega (arith, apart i k d after h, at.begins d)
     ])
 
--- a block that holds a byte at or above an address, and begins at or below it, is the last that does
-pub holds_alone : (blocks : List Block) (a count i : ℕ) → 1 ≤ count → AreApart blocks → IsLastBegun blocks a i → AloneAt (λ (b : Block). leb b.place a && leb (a + count) (b.place + b.size)) blocks i
-holds_alone blocks a count i some apart last =
+-- a block that holds what begins at an address is the last that begins at or below it
+pub holds_alone : (blocks : List Block) (a count i : ℕ) → AreApart blocks → IsLastBegun blocks a i → AloneAt (λ (b : Block). leb b.place a && leb (a + count) (b.place + b.size)) blocks i
+holds_alone blocks a count i apart last =
     λ k d h other. elim (cases_order k i) [
       | inl equal ↦ absurd (other equal)
       | inr (inl before) ↦
@@ -69,13 +70,10 @@ holds_alone blocks a count i some apart last =
       | inr (inr after) ↦ and_left _ _ (lt-leb _ _ (last.later k d (omega arith) h))
     ]
 
-pub covers_last : (blocks : List Block) (a count i : ℕ) (b : Block) → 1 ≤ count → AreApart blocks → IsLastBegun blocks a i → b ≡ get_or blocks i b → leb (a + count) (b.place + b.size) ≡ list_any (λ (b : Block). leb b.place a && leb (a + count) (b.place + b.size)) blocks
-covers_last blocks a count i b some apart last read =
-    let begun : leb b.place a ≡ true = le-leb _ _ (rw read (last.begun b)) in
-    let whole : list_any (λ (b : Block). leb b.place a && leb (a + count) (b.place + b.size)) blocks ≡ (leb b.place a && leb (a + count) (b.place + b.size)) =
-    list_any_alone (λ (b : Block). leb b.place a && leb (a + count) (b.place + b.size)) blocks i b last.within (holds_alone blocks a count i some apart last)
-    ∙ ap (λ (b : Block). leb b.place a && leb (a + count) (b.place + b.size)) (sym read) in
-    sym (whole ∙ ap (λ t. t && leb (a + count) (b.place + b.size)) begun)
+pub covers_last : (blocks : List Block) (a count i : ℕ) (b : Block) → AreApart blocks → IsLastBegun blocks a i → b ≡ get_or blocks i b → (leb b.place a && leb (a + count) (b.place + b.size)) ≡ list_any (λ (b : Block). leb b.place a && leb (a + count) (b.place + b.size)) blocks
+covers_last blocks a count i b apart last read =
+    ap (λ (b : Block). leb b.place a && leb (a + count) (b.place + b.size)) read
+    ∙ sym (list_any_alone (λ (b : Block). leb b.place a && leb (a + count) (b.place + b.size)) blocks i b last.within (holds_alone blocks a count i apart last))
 
 pub covers_none : (blocks : List Block) (a count : ℕ) → NoneBegun blocks a → list_any (λ (b : Block). leb b.place a && leb (a + count) (b.place + b.size)) blocks ≡ false
 covers_none blocks a count none = list_any_none _ blocks (λ k d h. and_left _ _ (lt-leb _ _ (none k d h)))

@@ -1,6 +1,7 @@
-ghost use Rattle.std.specs.Prelude.{◌≡◌, ◌==◌, ◌≤◌, ◌+◌, ◌<◌, if◌then◌else◌, Some, None, IfOk, length, MatchOption};
+ghost use Rattle.std.specs.Prelude.{◌≡◌, ◌==◌, ◌&&◌, nat_le, ◌≤◌, ◌+◌, ◌<◌, if◌then◌else◌, Some, None, IfOk, length, MatchOption};
 ghost use Rattle.cv_heap.specs.Heap.{empty_heap, has_room, with_block, begins_block, without_block, covers};
-ghost use Rattle.cv_heap.specs.Kept.{AreApart, IsHeap, NoneBegins, BeginsAt, NoneBegun, IsLastBegun};
+ghost use Rattle.cv_heap.specs.Kept.{AreApart, IsHeap};
+ghost use Rattle.cv_heap.specs.Found.{NoneBegins, BeginsAt, NoneBegun, IsLastBegun};
 
 use crate::MOST_BLOCKS;
 use cv_base::{HEAP_START, NoMemory, STACK_START};
@@ -12,6 +13,16 @@ use std::marker::Model;
 pub struct Block {
     pub place: u32,
     pub size: u32,
+}
+
+impl Block {
+    /// Whether the `len` bytes from an address on lie inside the block.
+    pub fn holds(&self, addr: u32, len: u32) -> bool
+        ensures { result ≡ (nat_le self.now.place addr && nat_le (addr + len) (self.now.place + self.now.size)) }
+    {
+        let end = u64::from(addr) + u64::from(len);
+        self.place <= addr && end <= u64::from(self.place) + u64::from(self.size)
+    }
 }
 
 /// The live blocks of the heap, at most 4,096, and the place of the next one (docs/MACHINE.md,
@@ -86,17 +97,12 @@ impl Blocks {
         }
     }
 
-    /// Whether the `len` bytes from an address on, of which there is one at least, lie inside one
-    /// live block.
+    /// Whether the `len` bytes from an address on lie inside one live block.
     pub fn covers(&self, addr: u32, len: u32) -> bool
-        requires { 1 ≤ len }
         ensures { result ≡ covers self.now addr len }
     {
         match last_begun(self.blocks.as_slice(), addr) {
-            Some(at) => {
-                let block = self.blocks[at];
-                u64::from(addr) + u64::from(len) <= u64::from(block.place) + u64::from(block.size)
-            }
+            Some(at) => self.blocks[at].holds(addr, len),
             None => false,
         }
     }

@@ -4,8 +4,8 @@ use Rattle.cv_heap.proofs.blocks.Blocks.covers.Goals as goal
 
 pub returns-in-Some : goal.returns-in-Some
 returns-in-Some c =
-    rw (c.from.ensures, c.from-in-Some.ensures, c.from-in-Some-2.ensures, c.from-in-Some-3.ensures, ← c.self.view_is)
-    (covers_last _ _ _ _ _ c.requires c.self.invariant.0.apart (rw c.as_slice.ensures.value at c.in-Some.ensures) c.index-block.ensures)
+    rw (c.holds.ensures, ← c.self.view_is)
+    (covers_last _ _ _ _ _ c.self.invariant.0.apart (rw c.as_slice.ensures.value at c.in-Some.ensures) c.index.ensures)
 
 pub returns-in-None : goal.returns-in-None
 returns-in-None c = rw (← c.self.view_is) (sym (covers_none _ _ _ (rw c.as_slice.ensures.value at c.in-None.ensures)))
