@@ -1,14 +1,14 @@
 -- Regions against a range of addresses.
-use Rattle.std.proofs.Common.{◌≡◌, ℕ, ◌+◌, ◌<◌, ◌≤◌, Bool, true, false, ◌||◌, ◌&&◌, List, [], ◌∷◌, refl, sym, ap, ◌∙◌, inl, inr, arith}
+use Rattle.std.proofs.Common.{◌≡◌, ℕ, ◌≤◌, Bool, true, false, ◌&&◌, List, [], ◌∷◌, refl, sym, ◌∙◌, arith}
 use Rattle.std.specs.Prelude.{nat_le}
 use Rattle.std.proofs.lemmas.Bool.{and_parts, leb-true}
 use Rattle.std.proofs.lemmas.Bool.Decides.{nat_tests}
-use Rattle.cv_base.specs.declared.TheConstants.{HEAP_START, STACK_END}
+use Rattle.cv_base.specs.declared.TheConstants.{HEAP_START}
 use Rattle.cv_base.specs.declared.image.Region.{Region}
-use Rattle.cv_base.specs.Regions.{each_address, some_address, is_within, is_in_region, is_heap_or_stack, is_code}
-use Rattle.cv_mem.specs.Access.{permits, is_open, meets, code_meets}
+use Rattle.cv_base.specs.Regions.{some_address, is_within, is_code}
+use Rattle.cv_mem.specs.Access.{meets, code_meets}
 use Rattle.cv_mem.specs.SpaceOf.{are_low}
-use Rattle.cv_mem.proofs.Addresses.{each_at, some-none, some-or, some-within}
+use Rattle.cv_mem.proofs.Addresses.{some-none, some-or, some-within}
 
 some-in : (b : Bool) (start end a n : ℕ) → some_address (λ q. b && is_within start end q) a n ≡ (b && some_address (is_within start end) a n)
 some-in true start end a n = refl

@@ -1,7 +1,7 @@
 -- Memory as a function from address to byte, 0 where nothing was written, and what a load and a
 -- store find (docs/MACHINE.md, "Regions"; RISC-V Unprivileged ISA, 2.6 "Load and Store
 -- Instructions").
-use Rattle.std.specs.Prelude.{ℕ, suc, zero, Bool, true, false, not, ◌==◌, ◌+◌, ◌-◌, ◌*◌, ◌/◌, ◌%◌, if◌then◌else◌, List, [], ◌∷◌, length, slice_index, Option, Some, None}
+use Rattle.std.specs.Prelude.{ℕ, suc, zero, true, false, not, ◌==◌, ◌+◌, ◌-◌, ◌*◌, ◌/◌, ◌%◌, if◌then◌else◌, List, [], ◌∷◌, length, slice_index, Option, Some, None}
 use Rattle.cv_base.specs.declared.image.Region.{Region}
 use Rattle.cv_base.specs.declared.image.Segment.{Segment}
 use Rattle.cv_base.specs.Regions.{is_within, is_readable, is_writable, is_code, each_address, some_address}

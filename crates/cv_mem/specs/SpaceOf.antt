@@ -1,6 +1,6 @@
 -- The memory of a run: the bytes from address 0 on, and the regions of the segments
 -- (docs/MACHINE.md, "Regions").
-use Rattle.std.specs.Prelude.{◌≡◌, ℕ, Bool, true, ◌||◌, ◌==◌, ◌+◌, ◌≤◌, nat_le, IsTrue, List, length, Option, Some, None, Result, Ok, Err}
+use Rattle.std.specs.Prelude.{◌≡◌, ℕ, Bool, true, ◌||◌, ◌==◌, nat_le, IsTrue, List, length, Some, None, Result, Ok, Err}
 use Rattle.std.specs.List.{list_all}
 use Rattle.cv_base.specs.declared.TheConstants.{HEAP_START}
 use Rattle.cv_base.specs.declared.image.Region.{Region}

@@ -7,6 +7,8 @@ mod laws;
 mod regions;
 mod segments;
 mod space;
+#[cfg(test)]
+mod tests;
 
 pub use laws::each_address_tests_each;
 pub use space::{MemFault, Space};

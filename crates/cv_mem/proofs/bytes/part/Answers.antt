@@ -1,4 +1,4 @@
-use Rattle.std.proofs.Common.{◌≡◌, ◌+◌, ◌-◌, arith}
+use Rattle.std.proofs.Common.{arith}
 use Rattle.std.proofs.lemmas.Grind.{common_steps}
 use Rattle.cv_mem.proofs.BytesAt.{bytes_at-memory_of}
 use Rattle.cv_mem.proofs.bytes.part.Goals as goal

@@ -1,4 +1,4 @@
-use Rattle.std.proofs.Common.{◌≡◌, ◌+◌, ◌-◌, length, arith}
+use Rattle.std.proofs.Common.{◌+◌, ◌-◌, length, arith}
 use Rattle.cv_mem.proofs.BytesAt.{memory_of-put_mid}
 use Rattle.cv_mem.proofs.bytes.write_at.Goals as goal
 

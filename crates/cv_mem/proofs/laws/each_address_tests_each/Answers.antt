@@ -1,4 +1,4 @@
-use Rattle.std.proofs.Common.{◌≡◌, ℕ, ◌+◌, ◌-◌, true, subst, arith}
+use Rattle.std.proofs.Common.{◌≡◌, ◌+◌, ◌-◌, arith}
 use Rattle.cv_mem.proofs.Addresses.{each_from, each_at}
 use Rattle.cv_mem.proofs.laws.each_address_tests_each.Goals as goal
 

@@ -1,4 +1,4 @@
-use Rattle.std.proofs.Common.{sym, ◌∙◌, arith}
+use Rattle.std.proofs.Common.{sym, ◌∙◌}
 use Rattle.cv_mem.proofs.Within.{high_open}
 use Rattle.cv_mem.proofs.regions.each_is_open.Goals as goal
 

@@ -1,4 +1,4 @@
-use Rattle.std.proofs.Common.{◌≡◌, ◌-◌, arith}
+use Rattle.std.proofs.Common.{◌-◌, arith}
 use Rattle.cv_mem.specs.Memory.{memory_of}
 use Rattle.cv_mem.proofs.SegmentsPlaced.{segment_written}
 use Rattle.cv_mem.proofs.segments.write_segments.Goals as goal

@@ -1,4 +1,4 @@
-use Rattle.std.proofs.Common.{◌≡◌, ◌∙◌, true, length, length-append, length-take, length-drop, arith}
+use Rattle.std.proofs.Common.{◌≡◌, ◌∙◌, length, length-append, length-take, length-drop, arith}
 use Rattle.std.proofs.lemmas.List.{length-replicate}
 use Rattle.cv_mem.specs.SpaceOf.{memory_size}
 use Rattle.cv_mem.proofs.SegmentsPlaced.{regions_low}

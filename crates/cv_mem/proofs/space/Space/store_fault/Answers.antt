@@ -1,4 +1,4 @@
-use Rattle.std.proofs.Common.{◌≡◌, ap, true, sym, ◌∙◌, arith}
+use Rattle.std.proofs.Common.{◌≡◌, ap, true, sym, ◌∙◌}
 use Rattle.cv_mem.specs.SpaceOf.{are_low}
 use Rattle.cv_mem.proofs.Within.{high_stores}
 use Rattle.cv_mem.proofs.space.Space.store_fault.Goals as goal
