@@ -20,7 +20,7 @@ use std::alloc::Global;
 
 /// The job that a file's bytes are (docs/FORMATS.md, "Job"). `Refused` has the first fault: the
 /// bytes are no JSON, the value is no object, a field's rule fails, or there are too many runs. Of
-/// equal keys the last stands, and other fields are ignored.
+/// equal keys the last stands, and other fields are ignored. `NoMemory` is that memory was refused.
 pub fn read_job(alloc: Global, bytes: &[u8]) -> Result<Job, JobFail>
     ensures reading { Answers (reading_of bytes.now) result }
     ensures limits { IfOk result IsJob }
