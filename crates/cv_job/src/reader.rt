@@ -5,7 +5,7 @@ ghost use Rattle.cv_job.specs.Answers.{Answers};
 ghost use Rattle.cv_job.specs.FirstBroken.{first_broken, rules_of};
 ghost use Rattle.cv_job.specs.JobOf.{IsJob};
 ghost use Rattle.cv_job.specs.Reading.{fields_of, reading_of};
-ghost use Rattle.cv_job.specs.declared.job.JobField.{JobField as AField};
+ghost use Rattle.cv_job.specs.declared.job.JobField.{JobField as FieldName};
 ghost use Rattle.cv_job.specs.declared.job.JobFail.TheVariants as fail;
 ghost use Rattle.cv_job.specs.declared.job.JobFault.TheVariants as fault;
 
@@ -20,7 +20,7 @@ use std::alloc::Global;
 
 /// The job that a file's bytes are (docs/FORMATS.md, "Job"). `Refused` has the first fault: the
 /// bytes are no JSON, the value is no object, a field's rule fails, or there are too many runs. Of
-/// equal keys the last stands, and other fields are ignored.
+/// equal keys the last stands, and other fields are ignored. `NoMemory` is that memory was refused.
 pub fn read_job(alloc: Global, bytes: &[u8]) -> Result<Job, JobFail>
     ensures reading { Answers (reading_of bytes.now) result }
     ensures limits { IfOk result IsJob }
@@ -73,6 +73,6 @@ fn broken(field: JobField) -> JobFail
 /// A law of the definitions, with nothing to run: the fault of a field names the first field, in
 /// the order image, workers, checks, budget, rounds, whose rule fails.
 pub fn fault_names_first_broken_field()
-    ensures { (d : Data) (f : AField)
+    ensures { (d : Data) (f : FieldName)
         → (fields_of d ≡ Err (fault.Field f)) ↔ (first_broken (rules_of d) ≡ Some f) }
 {}

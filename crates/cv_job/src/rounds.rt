@@ -53,13 +53,10 @@ fn round_in(alloc: Global, value: &Value) -> Result<Option<Round>, NoMemory>
 fn mode_in(value: &Value) -> Option<Mode>
     ensures { result ≡ mode_of (get (codes "mode") (view value.now)) }
 {
-    let name = value.get("mode")?.as_str()?;
-    if name == "learn" {
-        Some(Mode::Learn)
-    } else if name == "live" {
-        Some(Mode::Live)
-    } else {
-        None
+    match value.get("mode")?.as_str()? {
+        "learn" => Some(Mode::Learn),
+        "live" => Some(Mode::Live),
+        _ => None,
     }
 }
 

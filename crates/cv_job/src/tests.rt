@@ -9,7 +9,7 @@ const SAMPLE: &str =
     r#"{"image":"p.bin","workers":1,"checks":2,"budget":1000,"rounds":[{"mode":"learn","inputs":["24000100","2C000100"]},{"mode":"live","inputs":["00000000","00000000","00000000","00000000"]}]}"#;
 
 // The members of a small job, each with its comma.
-const MEMBERS: [(&str, &str); 5] = [
+static MEMBERS: [(&str, &str); 5] = [
     ("image", r#""image":"p.bin","#),
     ("workers", r#""workers":1,"#),
     ("checks", r#""checks":2,"#),
@@ -20,7 +20,7 @@ const MEMBERS: [(&str, &str); 5] = [
 const LINE: &str = "job workers 1 checks 2 budget 9 rounds 1 runs 1";
 
 // Whole texts.
-const TEXTS: [(&str, &str); 26] = [
+static TEXTS: [(&str, &str); 26] = [
     (SAMPLE, "job workers 1 checks 2 budget 1000 rounds 2 runs 6"),
     ("", "not-json"),
     (" \n\t", "not-json"),
@@ -77,7 +77,7 @@ const TEXTS: [(&str, &str); 26] = [
 ];
 
 // The small job with another text in place of one member.
-const CHANGED: [(&str, &str, &str); 74] = [
+static CHANGED: [(&str, &str, &str); 74] = [
     ("image", "", "field image"),
     ("image", r#""image":"","#, "field image"),
     ("image", r#""image":7,"#, "field image"),
@@ -268,7 +268,7 @@ const CHANGED: [(&str, &str, &str); 74] = [
 
 // The same with a text that holds a part many times: the member, what stands before the part, the
 // part, how often it stands, and what stands behind it.
-const LONG: [(&str, &str, &str, usize, &str, &str); 16] = [
+static LONG: [(&str, &str, &str, usize, &str, &str); 16] = [
     ("image", r#""image":""#, "a", 4096, r#"","#, LINE),
     ("image", r#""image":""#, "a", 4097, r#"","#, "field image"),
     ("image", r#""image":""#, "é", 2048, r#"","#, LINE),
@@ -375,8 +375,8 @@ fn answer(alloc: Global, image: &Image, job: &[u8]) -> Result<String, NoMemory> 
 
 fn changed(alloc: Global, field: &str, text: &str) -> Result<String, NoMemory> {
     let mut job = String::from_str(alloc, "{")?;
-    for (name, member) in MEMBERS {
-        job.push_str(if name == field { text } else { member })?;
+    for (name, member) in &MEMBERS {
+        job.push_str(if *name == field { text } else { member })?;
     }
     job.push_str("\"z\":0}")?;
     Ok(job)
@@ -398,22 +398,34 @@ fn long_text(
 }
 
 #[test]
-fn jobs_are_read_or_refused(rt: HostRuntime) -> Result<(), Fail> {
+fn texts_are_read_or_refused(rt: HostRuntime) -> Result<(), Fail> {
     let image = one_word_image(rt.alloc())?;
-    for (text, line) in TEXTS {
+    for (text, line) in &TEXTS {
         let said = answer(rt.alloc(), &image, text.as_bytes())?;
-        assert_eq!(rt; said.as_str(), line, "at {text}");
+        assert_eq!(rt; said.as_str(), *line, "at {text}");
     }
-    for (field, text, line) in CHANGED {
+    Ok(())
+}
+
+#[test]
+fn a_changed_job_is_read_or_refused(rt: HostRuntime) -> Result<(), Fail> {
+    let image = one_word_image(rt.alloc())?;
+    for (field, text, line) in &CHANGED {
         let job = changed(rt.alloc(), field, text)?;
         let said = answer(rt.alloc(), &image, job.as_bytes())?;
-        assert_eq!(rt; said.as_str(), line, "at {text}");
+        assert_eq!(rt; said.as_str(), *line, "at {text}");
     }
-    for (field, before, part, count, behind, line) in LONG {
-        let text = long_text(rt.alloc(), before, part, count, behind)?;
+    Ok(())
+}
+
+#[test]
+fn a_long_job_is_read_or_refused(rt: HostRuntime) -> Result<(), Fail> {
+    let image = one_word_image(rt.alloc())?;
+    for (field, before, part, count, behind, line) in &LONG {
+        let text = long_text(rt.alloc(), before, part, *count, behind)?;
         let job = changed(rt.alloc(), field, text.as_str())?;
         let said = answer(rt.alloc(), &image, job.as_bytes())?;
-        assert_eq!(rt; said.as_str(), line, "at {count} of {part}");
+        assert_eq!(rt; said.as_str(), *line, "at {count} of {part}");
     }
     Ok(())
 }
