@@ -3,6 +3,5 @@
 #![tactic(auto)]
 
 mod fields;
+mod file_header;
 mod header;
-
-pub use header::ProgramHeader;
