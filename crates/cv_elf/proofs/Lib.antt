@@ -1,2 +1,3 @@
 mod Examples
 pub mod Numbers
+pub mod TableSteps

@@ -5,3 +5,5 @@
 mod fields;
 mod file_header;
 mod header;
+mod segments;
+mod table;
