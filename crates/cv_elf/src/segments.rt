@@ -46,32 +46,50 @@ fn first_writable_code(headers: &[ProgramHeader]) -> Option<u32>
     Some(header.place)
 }
 
-/// The first two segments that share a byte of memory: the earlier one first in order, then the
-/// later one.
+/// The first two segments that share a byte of memory: the first in order that shares one with a
+/// later segment, and the first of these.
+#[tactic(auto, using(crate::proofs::Pairs::overlap_here, crate::proofs::Pairs::overlap_later))]
 fn first_overlap(headers: &[ProgramHeader]) -> Option<ImageFault>
     ensures { result ≡ fault_between ImageFault.SegmentsOverlap (find (λ (p : ProgramHeader × ProgramHeader). share_a_byte p.0 p.1) (pairs_of headers.now)) }
 {
     let mut left = headers;
     while let [first, later @ ..] = left {
-        if let Some(second) = later.iter().find(|h| first.overlaps(h)) {
-            return Some(ImageFault::SegmentsOverlap(first.place, second.place));
+        if let Some(place) = first_sharing(first, later) {
+            return Some(ImageFault::SegmentsOverlap(first.place, place));
         }
         left = later;
     }
     None
 }
 
+/// The place of the first segment that shares a byte of memory with this one.
+fn first_sharing(header: &ProgramHeader, others: &[ProgramHeader]) -> Option<u32>
+    ensures { result ≡ option_map (λ (h : ProgramHeader). h.place) (find (share_a_byte header.now) others.now) }
+{
+    let other = others.iter().find(|h| header.overlaps(h))?;
+    Some(other.place)
+}
+
 /// The first two segments that are executable.
+#[tactic(auto, using(crate::proofs::Pairs::texts_here))]
 fn second_text(headers: &[ProgramHeader]) -> Option<ImageFault>
     ensures { result ≡ fault_between ImageFault.TwoTexts (first_two (filter is_executable headers.now)) }
 {
     let mut left = headers;
     while let [first, later @ ..] = left {
         if first.is_executable() {
-            let second = later.iter().find(|h| h.is_executable())?;
-            return Some(ImageFault::TwoTexts(first.place, second.place));
+            let place = first_executable(later)?;
+            return Some(ImageFault::TwoTexts(first.place, place));
         }
         left = later;
     }
     None
+}
+
+/// The place of the first segment that is executable.
+fn first_executable(headers: &[ProgramHeader]) -> Option<u32>
+    ensures { result ≡ option_map (λ (h : ProgramHeader). h.place) (find is_executable headers.now) }
+{
+    let header = headers.iter().find(|h| h.is_executable())?;
+    Some(header.place)
 }
