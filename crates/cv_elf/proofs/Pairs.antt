@@ -41,10 +41,10 @@ first_pair : (h : ProgramHeader) (later : List ProgramHeader) (others : List (Pr
 first_pair h [] others = refl
 first_pair h (g ∷ later) others =
     elim (share_a_byte h g) as (λ b.
-        fault_between fault.SegmentsOverlap (cond b (Some (h, g)) (find sharing (map (λ (g : ProgramHeader). (h, g)) later ++ others)))
-        ≡ overlap_of h (option_map place_of (cond b (Some g) (find (share_a_byte h) later))) (overlap_in others)) [
-      true ↦ refl
-    | false ↦ first_pair h later others
+    fault_between fault.SegmentsOverlap (cond b (Some (h, g)) (find sharing (map (λ (g : ProgramHeader). (h, g)) later ++ others)))
+    ≡ overlap_of h (option_map place_of (cond b (Some g) (find (share_a_byte h) later))) (overlap_in others)) [
+      | true ↦ refl
+      | false ↦ first_pair h later others
     ]
 
 overlap_first : (xs : List ProgramHeader) → 1 ≤ length xs →
@@ -71,10 +71,10 @@ second_of : (h : ProgramHeader) (later : List ProgramHeader) →
 second_of h [] = refl
 second_of h (g ∷ later) =
     elim (is_executable g) as (λ b.
-        fault_between fault.TwoTexts (first_two (h ∷ cond b (g ∷ filter is_executable later) (filter is_executable later)))
-        ≡ text_after h (option_map place_of (cond b (Some g) (find is_executable later)))) [
-      true ↦ refl
-    | false ↦ second_of h later
+    fault_between fault.TwoTexts (first_two (h ∷ cond b (g ∷ filter is_executable later) (filter is_executable later)))
+    ≡ text_after h (option_map place_of (cond b (Some g) (find is_executable later)))) [
+      | true ↦ refl
+      | false ↦ second_of h later
     ]
 
 pub texts_here : (xs : List ProgramHeader) → 1 ≤ length xs → is_executable (head xs) ≡ true →

@@ -5,5 +5,10 @@
 mod fields;
 mod file_header;
 mod header;
+mod loading;
+mod reading;
 mod segments;
 mod table;
+mod text;
+
+pub use reading::elf;

@@ -1,7 +1,7 @@
-ghost use Rattle.std.specs.Prelude.{◌≡◌, ◌&&◌, find, length, option_map};
+ghost use Rattle.std.specs.Prelude.{◌≡◌, ◌&&◌, find, length, option_map, OnOk, IfNone};
 ghost use Rattle.std.specs.List.{filter};
 ghost use Rattle.cv_elf.specs.Headers.{is_executable, is_outside, is_writable, share_a_byte};
-ghost use Rattle.cv_elf.specs.Passes.{Passes};
+ghost use Rattle.cv_elf.specs.Passes.{AllInside, Passes};
 ghost use Rattle.cv_elf.specs.Tests.{fault_between, first_two, pairs_of, segment_tests};
 
 use crate::header::ProgramHeader;
@@ -11,7 +11,8 @@ use cv_base::{ImageFail, ImageFault};
 /// its range, none is writable and executable, no two share a byte, and at most one is executable.
 #[tactic(auto, unfolding(crate::specs::Tests::segment_tests))]
 pub fn check_segments(headers: &[ProgramHeader], file_length: u64) -> Result<(), ImageFail>
-    ensures { Passes (segment_tests file_length headers.now) result }
+    ensures passes { Passes (segment_tests file_length headers.now) result }
+    ensures inside { OnOk result (AllInside file_length headers.now) }
 {
     if let Some(place) = first_outside(headers, file_length) {
         return Err(ImageFail::Refused(ImageFault::SegmentOutside(place)));
@@ -30,7 +31,8 @@ pub fn check_segments(headers: &[ProgramHeader], file_length: u64) -> Result<(),
 
 /// The place of the first segment that reaches past the file, its memory or the range for segments.
 fn first_outside(headers: &[ProgramHeader], file_length: u64) -> Option<u32>
-    ensures { result ≡ option_map (λ (h : ProgramHeader). h.place) (find (is_outside file_length) headers.now) }
+    ensures place { result ≡ option_map (λ (h : ProgramHeader). h.place) (find (is_outside file_length) headers.now) }
+    ensures none { IfNone result (AllInside file_length headers.now) }
 {
     let header = headers.iter().find(|h| h.is_outside(file_length))?;
     Some(header.place)
