@@ -22,7 +22,7 @@ segments_reading bytes loadable =
       | None ↦ text_reading bytes loadable (find is_executable loadable)
     ]
 
-abbrev pub elf_reading : List ℕ → Result Picture ImageFault
+unfoldable pub elf_reading : List ℕ → Result Picture ImageFault
 elf_reading bytes =
     elim (first_fault (header_tests bytes)) [
       | Some f ↦ Err f

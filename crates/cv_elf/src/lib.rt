@@ -12,3 +12,6 @@ mod table;
 mod text;
 
 pub use reading::elf;
+
+#[cfg(test)]
+mod tests;

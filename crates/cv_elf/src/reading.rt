@@ -30,6 +30,7 @@ use std::alloc::Global;
 /// 12. `NoText`: no segment is executable, or it has no word.
 /// 13. `TextLong`: it has more than 65,536 words.
 /// 14. `EntryNotText`: the entry is not the address of one of these words.
+#[tactic(auto, unfolding(crate::specs::ElfReading::elf_reading))]
 pub fn elf(alloc: Global, bytes: &[u8]) -> Result<Image, ImageFail>
     ensures { ReadsAs (elf_reading bytes.now) result }
 {
