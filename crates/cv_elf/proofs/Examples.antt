@@ -19,21 +19,21 @@ told (Ok image) = Ok (image.text_base, length image.words, image.entry, length i
 told (Err f) = Err f
 
 accepted : told (elf_reading example) ≡ Ok (0x10000, 32, 0x10074, 2)
-unfolding half_at word_at header_at loadable_of header_tests table_tests segment_tests text_tests
+unfolding elf_reading half_at word_at header_at loadable_of header_tests table_tests segment_tests text_tests
 accepted = refl
 
 cut : elf_reading (take 51 example) ≡ Err fault.Short
-unfolding half_at word_at header_at loadable_of header_tests table_tests segment_tests text_tests
+unfolding elf_reading half_at word_at header_at loadable_of header_tests table_tests segment_tests text_tests
 cut = refl
 
 compressed : elf_reading (set example 36 1) ≡ Err fault.Compressed
-unfolding half_at word_at header_at loadable_of header_tests table_tests segment_tests text_tests
+unfolding elf_reading half_at word_at header_at loadable_of header_tests table_tests segment_tests text_tests
 compressed = refl
 
 writable_code : elf_reading (set example 108 7) ≡ Err (fault.WritableCode 1)
-unfolding half_at word_at header_at loadable_of header_tests table_tests segment_tests text_tests
+unfolding elf_reading half_at word_at header_at loadable_of header_tests table_tests segment_tests text_tests
 writable_code = refl
 
 entry_between_words : elf_reading (set example 24 118) ≡ Err fault.EntryNotText
-unfolding half_at word_at header_at loadable_of header_tests table_tests segment_tests text_tests
+unfolding elf_reading half_at word_at header_at loadable_of header_tests table_tests segment_tests text_tests
 entry_between_words = refl

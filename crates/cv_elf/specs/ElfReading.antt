@@ -18,13 +18,13 @@ text_reading bytes loadable (Some text) =
 abbrev pub segments_reading : List ℕ → List ProgramHeader → Result Picture ImageFault
 segments_reading bytes loadable =
     elim (first_fault (segment_tests (length bytes) loadable)) [
-      Some f ↦ Err f
-    | None ↦ text_reading bytes loadable (find is_executable loadable)
+      | Some f ↦ Err f
+      | None ↦ text_reading bytes loadable (find is_executable loadable)
     ]
 
-abbrev pub elf_reading : List ℕ → Result Picture ImageFault
+unfoldable pub elf_reading : List ℕ → Result Picture ImageFault
 elf_reading bytes =
     elim (first_fault (header_tests bytes)) [
-      Some f ↦ Err f
-    | None ↦ elim (first_fault (table_tests bytes)) [ Some f ↦ Err f | None ↦ segments_reading bytes (loadable_of bytes) ]
+      | Some f ↦ Err f
+      | None ↦ elim (first_fault (table_tests bytes)) [ Some f ↦ Err f | None ↦ segments_reading bytes (loadable_of bytes) ]
     ]

@@ -3,3 +3,4 @@ pub mod Fields
 pub mod Headers
 pub mod Loading
 pub mod Tests
+pub mod Passes

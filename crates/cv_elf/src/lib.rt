@@ -3,6 +3,15 @@
 #![tactic(auto)]
 
 mod fields;
+mod file_header;
 mod header;
+mod loading;
+mod reading;
+mod segments;
+mod table;
+mod text;
 
-pub use header::ProgramHeader;
+pub use reading::elf;
+
+#[cfg(test)]
+mod tests;

@@ -22,7 +22,7 @@ flat_picture bytes = record {
   entry = 0x10000;
 }
 
-abbrev pub flat_reading : List ℕ → Result Picture ImageFault
+unfoldable pub flat_reading : List ℕ → Result Picture ImageFault
 flat_reading bytes =
     if length bytes == 0 then Err fault.Empty
     else if not (length bytes % 4 == 0) then Err fault.NotWords

@@ -18,6 +18,7 @@ const LONGEST: usize = 262_144;
 /// It is refused, by the first of these that holds, as `Empty` where there is no byte, as
 /// `NotWords` where the length is no multiple of 4, and as `TextLong` where there are more than
 /// 262,144 bytes.
+#[tactic(auto, unfolding(crate::specs::FlatReading::flat_reading))]
 pub fn flat(alloc: Global, bytes: &[u8]) -> Result<Image, ImageFail>
     ensures { ReadsAs (flat_reading bytes.now) result }
 {
