@@ -3,7 +3,7 @@ use Rattle.std.specs.Prelude.{ℕ, Bool, true, false, not, ◌&&◌, ◌==◌, �
 use Rattle.std.specs.List.{list_all}
 use Rattle.std.specs.Result.{result_ok}
 use Rattle.std.specs.Str.{bytes_eq}
-use Rattle.hex.specs.Decode.{decode_of}
+use Rattle.hex.specs.Hex.{decode_of}
 use Rattle.cv_job.specs.Fields.{within}
 
 pub data Command : Type 0 where

@@ -1,5 +1,6 @@
 pub mod EndText
 pub mod FaultText
+pub mod Invariants
 pub mod Picture
 pub mod PlanOf
 pub mod Points
