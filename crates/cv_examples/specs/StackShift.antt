@@ -1,17 +1,10 @@
 -- An offset of sp, restored at three points.
-use Rattle.std.specs.Prelude.{◌≡◌, ℕ, List, [], ◌∷◌, codes, refl}
+use Rattle.std.specs.Prelude.{ℕ, List, [], ◌∷◌, codes}
 use Rattle.std.specs.List.{flat_map}
-use Rattle.std.specs.Fmt.{digits}
 use Rattle.cv_base.specs.declared.plan.Mode.TheVariants.{Learn, Live}
 use Rattle.cv_base.specs.PlanOf.{PlanOf}
-use Rattle.cv_isa.specs.DecodeTable.{row_of}
-use Rattle.cv_isa.specs.Uses.{registers}
-use Rattle.cv_runs.specs.PatchedRun.{patched_from}
-use Rattle.cv_runs.specs.PlainRun.{steps_from}
-use Rattle.cv_runs.specs.PlainTurn.{turn_of}
 use Rattle.cv_histories.specs.DrillPlan.{flat_image}
-use Rattle.cv_histories.specs.Report.{line, report}
-use Rattle.cv_histories.specs.Serial.{serial}
+use Rattle.cv_histories.specs.Report.{line}
 
 abbrev pub stack_shift_words : List ℕ
 stack_shift_words =
@@ -21,11 +14,15 @@ stack_shift_words =
 
 abbrev pub stack_shift_plan : PlanOf
 stack_shift_plan = record {
-  image = flat_image stack_shift_words; workers = 1; checks = 2; budget = 1000;
+  image = flat_image stack_shift_words;
+  workers = 1;
+  checks = 2;
+  budget = 1000;
   rounds =
-    record { mode = Learn; inputs = (0 ∷ 0 ∷ []) ∷ (5 ∷ 0 ∷ []) ∷ (3 ∷ 0 ∷ []) ∷ [] } ∷
-    record { mode = Live; inputs = (2 ∷ 8 ∷ []) ∷ (2 ∷ 8 ∷ []) ∷ (2 ∷ 8 ∷ []) ∷ (2 ∷ 8 ∷ []) ∷ (2 ∷ 8 ∷ []) ∷ (2 ∷ 8 ∷ []) ∷ (2 ∷ 8 ∷ []) ∷ (2 ∷ 8 ∷ []) ∷ (2 ∷ 8 ∷ []) ∷ (2 ∷ 8 ∷ []) ∷ (2 ∷ 8 ∷ []) ∷ (2 ∷ 8 ∷ []) ∷ (2 ∷ 8 ∷ []) ∷ (2 ∷ 8 ∷ []) ∷ [] } ∷
-    record { mode = Live; inputs = (1 ∷ 4 ∷ []) ∷ (1 ∷ 4 ∷ []) ∷ (1 ∷ 4 ∷ []) ∷ (4 ∷ 0 ∷ []) ∷ [] } ∷ [] }
+      record { mode = Learn; inputs = (0 ∷ 0 ∷ []) ∷ (5 ∷ 0 ∷ []) ∷ (3 ∷ 0 ∷ []) ∷ [] } ∷
+      record { mode = Live; inputs = (2 ∷ 8 ∷ []) ∷ (2 ∷ 8 ∷ []) ∷ (2 ∷ 8 ∷ []) ∷ (2 ∷ 8 ∷ []) ∷ (2 ∷ 8 ∷ []) ∷ (2 ∷ 8 ∷ []) ∷ (2 ∷ 8 ∷ []) ∷ (2 ∷ 8 ∷ []) ∷ (2 ∷ 8 ∷ []) ∷ (2 ∷ 8 ∷ []) ∷ (2 ∷ 8 ∷ []) ∷ (2 ∷ 8 ∷ []) ∷ (2 ∷ 8 ∷ []) ∷ (2 ∷ 8 ∷ []) ∷ [] } ∷
+      record { mode = Live; inputs = (1 ∷ 4 ∷ []) ∷ (1 ∷ 4 ∷ []) ∷ (1 ∷ 4 ∷ []) ∷ (4 ∷ 0 ∷ []) ∷ [] } ∷ [];
+}
 
 abbrev pub stack_shift_report : List ℕ
 stack_shift_report = flat_map line (
@@ -162,7 +159,3 @@ stack_shift_report = flat_map line (
     codes "install entry 12 case 1 repair 2" ∷
     codes "learned 72" ∷
     codes "end" ∷ [])
-
-pub stack_shift_reports : report stack_shift_plan (serial stack_shift_plan) ≡ stack_shift_report
-unfolding turn_of row_of registers steps_from patched_from digits
-stack_shift_reports = refl

@@ -1,0 +1,15 @@
+-- The indirect call with a fifth live input, which needs no repair.
+use Rattle.std.specs.Prelude.{◌≡◌, refl}
+use Rattle.std.specs.Fmt.{digits}
+use Rattle.cv_isa.specs.DecodeTable.{row_of}
+use Rattle.cv_isa.specs.Uses.{registers}
+use Rattle.cv_runs.specs.PatchedRun.{patched_from}
+use Rattle.cv_runs.specs.PlainRun.{steps_from}
+use Rattle.cv_runs.specs.PlainTurn.{turn_of}
+use Rattle.cv_histories.specs.Report.{report}
+use Rattle.cv_histories.specs.Serial.{serial}
+use Rattle.cv_examples.specs.CallingOn.{calling_on_plan, calling_on_report}
+
+pub calling_on_reports : report calling_on_plan (serial calling_on_plan) ≡ calling_on_report
+unfolding turn_of row_of registers steps_from patched_from digits
+calling_on_reports = refl

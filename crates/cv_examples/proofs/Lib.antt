@@ -1,0 +1,16 @@
+mod Blocks
+mod CallingLearned
+mod CallingOnReport
+mod CallingReport
+mod CopyLowReport
+mod Drills
+mod KeptAfterFailReport
+mod LoopModerateReport
+mod NoRepairsReport
+mod ReturnAtEndReport
+mod Runs
+mod StackShiftReport
+mod TwoFaultsReport
+mod TwoSlotsFacts
+mod Values
+mod ViolatedOnceAndTwiceReport
