@@ -59,7 +59,8 @@ impl Machine {
         if !self.is_point(next) {
             return self.fail(FailureKind::IllegalTransfer, next);
         }
-        self.put(address, size, self.core.regs.get(inst.rs2));
+        let value = self.core.regs.get(inst.rs2);
+        self.put(address, size, value);
         self.go_on(false)
     }
 
