@@ -119,6 +119,7 @@ impl Machine {
 
     /// One turn: the instruction at the pc, with the nine tests in their order (docs/MACHINE.md,
     /// "The nine tests"). It never answers an end by budget, and takes no memory.
+    #[tactic(auto, unfolding(cv_runs::specs::PlainTurn::turn_of))]
     pub fn turn(&mut self) -> Turn
         requires { IsTrue (is_point self.old.image self.old.core.pc) }
         ensures answer { result ≡ answer_of (turn_of self.old.image (state_of self.old)) }
