@@ -36,7 +36,7 @@ more_of image start budget done s next (Next n t) transfer below steps answer le
     record {
       ends = rw left (sym (ap end_of steps) ∙ r.ends);
       turns = rw left (omega (arith, ap length steps, r.turns));
-      leaves = rw left (sym (ap (state_left s) steps) ∙ r.leaves)
+      leaves = rw left (sym (ap (state_left s) steps) ∙ r.leaves);
     }
 more_of image start budget done s next (Ended e) transfer below steps answer left r = cc
 
@@ -47,7 +47,7 @@ stopped_of image start budget done s next (Ended e) end below steps answer left 
     record {
       ends = same ∙ sym (ap end_of steps) ∙ r.ends;
       turns = omega (arith, ap length steps, r.turns);
-      leaves = left ∙ sym (ap (state_left s) steps) ∙ r.leaves
+      leaves = left ∙ sym (ap (state_left s) steps) ∙ r.leaves;
     }
 
 -- after a turn that goes on
@@ -69,5 +69,5 @@ over image start budget done s all r =
     record {
       ends = sym (ap end_of steps) ∙ r.ends;
       turns = omega (arith, ap length steps, r.turns);
-      leaves = sym (ap (state_left s) steps) ∙ r.leaves
+      leaves = sym (ap (state_left s) steps) ∙ r.leaves;
     }

@@ -53,6 +53,7 @@ impl Machine {
     pub fn make(alloc: Global, image: &Image) -> Result<Machine, NoMemory>
         ensures image { IfOk result (λ m. m.image ≡ image.now) }
         ensures start { IfOk result (λ m. state_of m ≡ start_state image.now []) }
+        ensures point { IfOk result (λ m. IsTrue (is_point m.image m.core.pc)) }
     {
         let insts = decoded(alloc, image.words.as_slice())?;
         let space = Space::make(alloc, image)?;
@@ -78,6 +79,7 @@ impl Machine {
         requires { length input.now ≤ 65536 }
         ensures image { self.new.image ≡ self.old.image }
         ensures start { OnOk result (state_of self.new ≡ start_state self.old.image input.now) }
+        ensures point { OnOk result (IsTrue (is_point self.new.image self.new.core.pc)) }
         ensures err { OnErr result (self.new ≡ self.old) }
     {
         let input = Items::from_slice(alloc, input)?;

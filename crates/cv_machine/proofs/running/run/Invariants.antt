@@ -8,5 +8,5 @@ abbrev pub invariant-loop-done : goal.invariant-loop-done
 invariant-loop-done l = record {
   image : l.machine.image ≡ l.fn.machine.image;
   point : IsTrue (is_point l.machine.image l.machine.core.pc);
-  remains : Remains l.fn.machine.image (state_of l.fn.machine) l.budget l.done (state_of l.machine)
+  remains : Remains l.fn.machine.image (state_of l.fn.machine) l.budget l.done (state_of l.machine);
 }
