@@ -177,6 +177,7 @@ impl Machine {
     }
 
     /// The `count` bytes at an address go to the output, as far as it has room.
+    #[tactic(auto, using(crate::proofs::OutputKept::kept))]
     fn add_output(&mut self, address: u32, count: u32)
         requires { each_address (is_readable (regions_of self.old.image)) address count ≡ true }
         ensures state { state_of self.new ≡ record (state_of self.old) { output = take MOST_OUTPUT (self.old.output ++ bytes_at (memory_of self.old.bytes) address count) } }
