@@ -1,13 +1,13 @@
 -- What is left of a run after some of its turns: it ends as the whole does, leaves the same state,
 -- and its turns and those done are the whole's.
 use Rattle.std.proofs.Common.{◌≡◌, ◌<◌, ◌+◌, ◌-◌, ℕ, suc, Bool, length, sym, ap, ◌∙◌, refl, arith}
-use Rattle.std.specs.Prelude.{◌≤◌, [], ◌∷◌}
+use Rattle.std.specs.Prelude.{[]}
 use Rattle.cv_base.specs.declared.ends.End.{End}
 use Rattle.cv_base.specs.declared.ends.End.TheVariants.{Budget}
 use Rattle.cv_base.specs.Picture.{Picture}
 use Rattle.cv_machine.specs.Answers.{answer_of, left_by}
 use Rattle.cv_machine.specs.declared.turn.Turn.TheVariants as turn
-use Rattle.cv_runs.specs.PlainRun.{Step, steps_from, stepped, end_of, state_left}
+use Rattle.cv_runs.specs.PlainRun.{steps_from, stepped, end_of, state_left}
 use Rattle.cv_runs.specs.PlainTurn.{turn_of}
 use Rattle.cv_runs.specs.State.{State, Outcome, Next, Ended}
 
