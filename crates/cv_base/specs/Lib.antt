@@ -1,5 +1,6 @@
 pub mod EndText
 pub mod FaultText
+pub mod InvariantText
 pub mod Invariants
 pub mod Picture
 pub mod PlanOf

@@ -1,7 +1,8 @@
 ghost use Rattle.std.specs.Prelude.{◌≡◌, IfOk};
 
-use crate::{Items, NoMemory};
+use crate::{Address, Addresses, Items, NoMemory};
 use std::alloc::Global;
+use std::fmt;
 
 /// A fact about the registers before the instruction at a point (docs/REPAIR.md, "Invariants").
 /// Registers are numbered from 1 to 31.
@@ -58,5 +59,36 @@ impl Invariant {
                 offset: *offset,
             },
         })
+    }
+}
+
+impl fmt::Display for Invariant {
+    ghost use Rattle.std.specs.Prelude.{Some};
+    ghost use Rattle.cv_base.specs.InvariantText.{invariant_text};
+
+    ghost output = { λ k. Some (invariant_text k) };
+
+    fn fmt<W: fmt::Write>(&self, f: &mut fmt::Formatter<W>) -> fmt::Result {
+        match self {
+            Invariant::OneOf { point, reg, values } => {
+                let point = Address(*point);
+                let values = Addresses(values.as_slice());
+                write!(f, "one-of {point} x{reg} {values}")
+            }
+            Invariant::Lower { point, reg, bound } => {
+                let point = Address(*point);
+                let bound = Address(*bound);
+                write!(f, "lower {point} x{reg} {bound}")
+            }
+            Invariant::LessThan { point, low, high } => {
+                let point = Address(*point);
+                write!(f, "less-than {point} x{low} x{high}")
+            }
+            Invariant::SpOffset { point, offset } => {
+                let point = Address(*point);
+                let offset = Address(*offset);
+                write!(f, "sp-offset {point} {offset}")
+            }
+        }
     }
 }

@@ -15,7 +15,7 @@ mod plan;
 mod registers;
 mod text;
 
-pub use address::Address;
+pub use address::{Address, Addresses};
 pub use cases::{Case, Change, Class, Repair};
 pub use ends::{CrashCause, End, FailureId, FailureKind};
 pub use entries::{Adopted, Entry, FiredRow, Observation, TallyRow};

@@ -2,6 +2,7 @@
 use Rattle.std.specs.Prelude.{ℕ, Bool, true, false, List, [], ◌∷◌, ◌++◌, length, filter, codes, is_some}
 use Rattle.std.specs.Fmt.{decimal}
 use Rattle.std.specs.List.{flat_map}
+use Rattle.cv_base.specs.InvariantText.{invariant_text}
 use Rattle.cv_base.specs.declared.cases.Change.{Change}
 use Rattle.cv_base.specs.declared.ends.End.{End}
 use Rattle.cv_base.specs.declared.ends.End.TheVariants.{Exit, Failure, Budget}
@@ -18,7 +19,6 @@ use Rattle.cv_histories.specs.Installed.{changes}
 use Rattle.cv_histories.specs.Report.{line}
 use Rattle.cv_histories.specs.Runs.{Run, runs}
 use Rattle.cv_histories.specs.Seen.{is_exit, is_live}
-use Rattle.cv_histories.specs.Texts.{invariant_text}
 use Rattle.cv_histories.specs.Versions.{Ledger, ledger}
 
 -- what is seen in a run that is learned from: a learn run that ends by exit

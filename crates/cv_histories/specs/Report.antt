@@ -2,6 +2,7 @@
 use Rattle.std.specs.Prelude.{ℕ, suc, ℤ, Bool, true, false, ◌==◌, ◌+◌, ◌-◌, min, if◌then◌else◌, List, [], ◌∷◌, ◌++◌, length, map, codes, Option, Some, None}
 use Rattle.std.specs.Fmt.{decimal, signed_decimal}
 use Rattle.std.specs.List.{flat_map}
+use Rattle.cv_base.specs.InvariantText.{invariant_text, list_text}
 use Rattle.cv_base.specs.declared.cases.Case.{Case}
 use Rattle.cv_base.specs.declared.cases.Change.{Change}
 use Rattle.cv_base.specs.declared.cases.Repair.{Repair}
@@ -18,7 +19,7 @@ use Rattle.cv_histories.specs.Installed.{changes, installed, is_dropped}
 use Rattle.cv_histories.specs.Repairs.{repairs_of}
 use Rattle.cv_histories.specs.Scores.{fails, score, wins}
 use Rattle.cv_histories.specs.Seen.{Seen, learned_of}
-use Rattle.cv_histories.specs.Texts.{action_text, adopted_text, class_text, fired_text, invariant_text, list_text, mode_text, tally_text}
+use Rattle.cv_histories.specs.Texts.{action_text, adopted_text, class_text, fired_text, mode_text, tally_text}
 use Rattle.cv_histories.specs.Versions.{Ledger, ledger}
 
 abbrev pub line : List ℕ → List ℕ
