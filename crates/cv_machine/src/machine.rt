@@ -1,9 +1,9 @@
-ghost use Rattle.std.specs.Prelude.{◌≡◌, ◌≤◌, ℕ, [], length, map, IfOk, IsTrue, OnOk, OnErr};
+ghost use Rattle.std.specs.Prelude.{◌≡◌, ◌≤◌, [], length, map, IfOk, IsTrue, OnOk, OnErr};
 ghost use Rattle.cv_base.specs.Picture.{is_point, word_at};
 ghost use Rattle.cv_base.specs.Registers.{with_register, zero_registers};
 ghost use Rattle.cv_isa.specs.DecodeTable.{meaning_of};
 ghost use Rattle.cv_mem.specs.Memory.{memory_of};
-ghost use Rattle.cv_runs.specs.PlainTurn.{turn_of, decoded_turn, executed, operated};
+ghost use Rattle.cv_runs.specs.PlainTurn.{turn_of};
 ghost use Rattle.cv_runs.specs.State.{start_core, start_state, failed};
 ghost use Rattle.cv_machine.specs.Answers.{answer_of, left_by};
 ghost use Rattle.cv_machine.specs.Held.{state_of};
