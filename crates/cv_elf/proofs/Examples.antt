@@ -1,9 +1,8 @@
 -- The worked example of docs/FORMATS.md, "ELF image": two segments, a text of 32 words, and what
 -- becomes of it with one number changed.
-use Rattle.std.proofs.Common.{◌≡◌, ℕ, List, [], ◌∷◌, ◌++◌, length, take, drop, set, Option, Some, None, Result, Ok, Err, refl}
+use Rattle.std.proofs.Common.{◌≡◌, ℕ, List, [], ◌∷◌, length, take, set, Result, Ok, Err, refl}
 use Rattle.cv_base.specs.declared.image.ImageFault.{ImageFault}
 use Rattle.cv_base.specs.declared.image.ImageFault.TheVariants as fault
-use Rattle.cv_base.specs.declared.image.Segment.{Segment}
 use Rattle.cv_base.specs.Picture.{Picture}
 use Rattle.cv_elf.specs.Fields.{half_at, word_at}
 use Rattle.cv_elf.specs.Headers.{header_at, loadable_of}

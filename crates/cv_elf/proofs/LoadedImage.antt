@@ -1,15 +1,14 @@
 -- What passed the tests is an image.
-use Rattle.std.proofs.Common.{length-append, length-drop, inl, inr, ◌≡◌, ◌≤◌, ◌<◌, ℕ, ◌+◌, ◌-◌, ◌*◌, ◌/◌, ◌%◌, Bool, true, false, cond, not, ◌&&◌, ◌⊎◌, List, [], ◌∷◌, ◌++◌, length, map, take, drop, replicate, find, Option, Some, None, option_map, refl, sym, ap, ◌∙◌, arith}
-use Rattle.std.specs.List.{All, filter, list_all}
+use Rattle.std.proofs.Common.{length-append, length-drop, inl, inr, ◌≡◌, ◌≤◌, ℕ, ◌+◌, ◌-◌, Bool, true, false, cond, not, ◌&&◌, List, [], ◌∷◌, ◌++◌, length, map, drop, replicate, find, Some, None, option_map, refl, ap, ◌∙◌, arith}
+use Rattle.std.specs.List.{filter, list_all}
 use Rattle.std.proofs.lemmas.Bool.{cases_Bool}
 use Rattle.std.proofs.lemmas.Bool.Decides.{nat_tests}
 use Rattle.std.proofs.lemmas.List.{length-take-le, length-replicate, length-map}
 use Rattle.std.proofs.lemmas.List.Elements.{All-head, All-tail}
 use Rattle.std.specs.Cmp.Derive.{both_true}
 use Rattle.cv_base.specs.declared.image.Segment.{Segment}
-use Rattle.cv_base.specs.Picture.{is_point}
 use Rattle.cv_base.specs.Points.{is_point_in}
-use Rattle.cv_base.specs.WellFormed.{IsImage, IsText, HasText, is_placed, are_apart, all_apart, one_has_code, words_of}
+use Rattle.cv_base.specs.WellFormed.{IsImage, IsText, is_placed, are_apart, all_apart, one_has_code}
 use Rattle.cv_elf.specs.declared.header.ProgramHeader.{ProgramHeader}
 use Rattle.cv_elf.specs.Fields.{e_entry}
 use Rattle.cv_elf.specs.Headers.{is_executable, is_writable, is_outside, share_a_byte}

@@ -1,5 +1,5 @@
 -- How many words bytes spell, and that bytes past the last whole word do not matter.
-use Rattle.std.proofs.Common.{◌≡◌, ◌≤◌, ℕ, suc, ◌+◌, ◌*◌, ◌/◌, List, [], ◌∷◌, ◌++◌, length, take, drop, refl, ap, ◌∙◌, arith}
+use Rattle.std.proofs.Common.{◌≡◌, ◌≤◌, ℕ, suc, ◌+◌, ◌*◌, ◌/◌, List, [], ◌∷◌, ◌++◌, length, take, drop, refl, ap, arith}
 use Rattle.std.proofs.lemmas.List.{drop-append-le, take-append-le}
 use Rattle.cv_base.specs.WellFormed.{words_of}
 

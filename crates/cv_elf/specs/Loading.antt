@@ -1,6 +1,5 @@
 -- What the loadable segments of an ELF file hold (docs/FORMATS.md, "ELF image").
 use Rattle.std.specs.Prelude.{ℕ, ◌+◌, ◌-◌, ◌*◌, ◌/◌, List, ◌++◌, map, take, drop, replicate}
-use Rattle.cv_base.specs.declared.image.Region.{Region}
 use Rattle.cv_base.specs.declared.image.Segment.{Segment}
 use Rattle.cv_base.specs.Picture.{Picture}
 use Rattle.cv_base.specs.WellFormed.{words_of}

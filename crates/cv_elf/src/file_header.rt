@@ -34,7 +34,7 @@ pub fn check_header(bytes: &[u8]) -> Result<(), ImageFail>
     if bytes.len() < ELF_HEADER_SIZE {
         return Err(ImageFail::Refused(ImageFault::Short));
     }
-    if !bytes.starts_with(&MAGIC) {
+    if !is_elf(bytes) {
         return Err(ImageFail::Refused(ImageFault::NotElf));
     }
     if !is_rv32_exec(bytes) {
@@ -47,6 +47,14 @@ pub fn check_header(bytes: &[u8]) -> Result<(), ImageFail>
         return Err(ImageFail::Refused(ImageFault::HeadersOutside));
     }
     Ok(())
+}
+
+/// Whether a file begins with the four bytes 7F 45 4C 46, by which an ELF file is told from a flat
+/// image.
+pub fn is_elf(bytes: &[u8]) -> bool
+    ensures { result ≡ is_elf bytes.now }
+{
+    bytes.starts_with(&MAGIC)
 }
 
 /// Whether the header is that of a 32-bit RISC-V executable in little-endian order.

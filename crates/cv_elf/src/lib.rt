@@ -11,6 +11,7 @@ mod segments;
 mod table;
 mod text;
 
+pub use file_header::is_elf;
 pub use reading::elf;
 
 #[cfg(test)]

@@ -1,7 +1,6 @@
-use Rattle.std.proofs.Common.{◌≡◌, ◌≤◌, List, length, find, Some, sym, ap, ◌∙◌, arith, rules}
-use Rattle.std.proofs.lemmas.Grind.{common_steps}
+use Rattle.std.proofs.Common.{◌≡◌, ◌≤◌, List, length, ◌∙◌, rules}
 use Rattle.cv_elf.specs.declared.header.ProgramHeader.{ProgramHeader}
-use Rattle.cv_elf.specs.Headers.{is_executable, loadable_of}
+use Rattle.cv_elf.specs.Headers.{loadable_of}
 use Rattle.cv_elf.proofs.LoadedImage.{IsImage-loaded}
 use Rattle.cv_elf.proofs.PassedTests.{few_segments, PassedTests-from}
 use Rattle.cv_elf.proofs.reading.elf.Goals as goal

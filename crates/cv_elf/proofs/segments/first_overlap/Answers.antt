@@ -1,4 +1,4 @@
-use Rattle.std.proofs.Common.{sym, ◌∙◌, arith, rules}
+use Rattle.std.proofs.Common.{sym, ◌∙◌, arith}
 use Rattle.cv_elf.proofs.Pairs.{overlap_here, overlap_later}
 use Rattle.cv_elf.proofs.segments.first_overlap.Goals as goal
 

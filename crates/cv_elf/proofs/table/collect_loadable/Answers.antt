@@ -1,6 +1,6 @@
 use Rattle.std.proofs.Common.{◌≡◌, ◌+◌, true, refl, arith, rules}
 use Rattle.std.proofs.lemmas.Grind.{common_steps}
-use Rattle.cv_elf.specs.Headers.{header_at, loadable_of, is_loadable}
+use Rattle.cv_elf.specs.Headers.{header_at, is_loadable}
 use Rattle.cv_elf.proofs.TableSteps.{loadable_kept, left, more_than_64, moved_over}
 use Rattle.cv_elf.proofs.table.collect_loadable.Goals as goal
 
