@@ -4,7 +4,7 @@ use Rattle.std.specs.Fmt.{decimal}
 use Rattle.cv_base.specs.Picture.{Picture}
 use Rattle.cv_base.specs.PlanOf.{PlanOf}
 use Rattle.cv_base.specs.Text.{address_text}
-use Rattle.cv_job.specs.JobLine.{job_line}
+use Rattle.cv_base.specs.PlanText.{job_line}
 
 abbrev pub text_line : Picture → List ℕ
 text_line image =

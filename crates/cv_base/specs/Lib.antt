@@ -4,6 +4,7 @@ pub mod InvariantText
 pub mod Invariants
 pub mod Picture
 pub mod PlanOf
+pub mod PlanText
 pub mod Points
 pub mod Regions
 pub mod Registers

@@ -1,6 +1,6 @@
 -- Where blocks begin: at each turn of a loop, and at each 64th turn of a straight run.
-use Rattle.std.specs.Prelude.{◌≡◌, ◌+◌, ℕ, true, false, List, [], ◌∷◌, ◌++◌, filter, length, replicate, unwrap_or}
-use Rattle.cv_runs.specs.PatchedRun.{PatchedStep, entries_in, run_under}
+use Rattle.std.specs.Prelude.{◌≡◌, ◌+◌, ℕ, true, false, List, [], ◌∷◌, ◌++◌, replicate, unwrap_or}
+use Rattle.cv_runs.specs.PatchedRun.{PatchedStep, run_under}
 use Rattle.cv_histories.specs.DrillPlan.{flat_image}
 
 -- the numbers of the turns that are block entries

@@ -1,6 +1,6 @@
 -- A program that reads two addresses from the stack and calls one with the other: a repair is
 -- withdrawn and a second case opens; then two late wins of the withdrawn repair.
-use Rattle.std.specs.Prelude.{ℕ, ℤ, List, [], ◌∷◌, length, map, take, unwrap_or, slice_get, Option, Some, None, option_map}
+use Rattle.std.specs.Prelude.{ℕ, ℤ, List, [], ◌∷◌, length, map, take, unwrap_or, slice_get, Option, Some, option_map}
 use Rattle.cv_base.specs.declared.cases.Case.{Case}
 use Rattle.cv_base.specs.declared.cases.Change.{Change}
 use Rattle.cv_base.specs.declared.ends.End.{End}
@@ -16,7 +16,7 @@ use Rattle.cv_histories.specs.Installed.{changes, installed}
 use Rattle.cv_histories.specs.Runs.{Run, run_at, runs}
 use Rattle.cv_histories.specs.Scores.{score}
 use Rattle.cv_histories.specs.Seen.{Seen, table_at}
-use Rattle.cv_histories.specs.Serial.{live_entry, serial_from, serial_ledger}
+use Rattle.cv_histories.specs.Serial.{live_entry, serial_from}
 use Rattle.cv_histories.specs.Versions.{Ledger, ledger, posted}
 
 abbrev pub two_slots_words : List ℕ

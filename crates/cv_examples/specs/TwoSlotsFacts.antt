@@ -1,5 +1,5 @@
 -- What the two-slot program's histories come to.
-use Rattle.std.specs.Prelude.{◌≡◌, ℕ, ℤ, pos, negsuc, List, [], ◌∷◌, Option, Some, None}
+use Rattle.std.specs.Prelude.{◌≡◌, pos, negsuc, [], ◌∷◌, Some, None}
 use Rattle.cv_base.specs.declared.ends.CrashCause.TheVariants.{Unreadable}
 use Rattle.cv_base.specs.declared.ends.End.TheVariants.{Exit, Failure}
 use Rattle.cv_base.specs.declared.ends.FailureKind.TheVariants.{Crash}

@@ -1,5 +1,5 @@
 -- Cases: which entry opens one, and its candidates (docs/REPAIR.md, "Cases").
-use Rattle.std.specs.Prelude.{ℕ, Bool, true, false, not, ◌&&◌, ◌||◌, ◌==◌, ◌+◌, ◌-◌, nat_lt, if◌then◌else◌, List, [], ◌∷◌, ◌++◌, length, filter, fold, take, Option, Some, None}
+use Rattle.std.specs.Prelude.{ℕ, Bool, true, false, not, ◌&&◌, ◌||◌, ◌==◌, ◌+◌, ◌-◌, nat_lt, List, [], ◌∷◌, ◌++◌, length, filter, fold, take, Option, Some, None}
 use Rattle.std.specs.List.{list_any}
 use Rattle.cv_base.specs.declared.cases.Case.{Case}
 use Rattle.cv_base.specs.declared.ends.FailureId.{FailureId}
@@ -18,7 +18,7 @@ distance a b = (a - b) + (b - a)
 abbrev pub comes_before : ℕ → Invariant → Invariant → Bool
 comes_before site a b =
     nat_lt (distance site (point_of a)) (distance site (point_of b))
-      || ((distance site (point_of a) == distance site (point_of b)) && nat_lt (point_of a) (point_of b))
+    || ((distance site (point_of a) == distance site (point_of b)) && nat_lt (point_of a) (point_of b))
 
 -- behind all that do not come after it: what is equally near keeps its order
 abbrev pub placed : ℕ → List Invariant → Invariant → List Invariant
@@ -37,8 +37,9 @@ abbrev pub candidates_at : List ℕ → List Invariant → List ℕ → List Inv
 candidates_at starts invariants [] = []
 candidates_at starts invariants (site ∷ sites) =
     elim (of_procedure starts site invariants) [
-      [] ↦ candidates_at starts invariants sites
-    | k ∷ ks ↦ take MOST_CANDIDATES (by_distance site (k ∷ ks)) ]
+      | [] ↦ candidates_at starts invariants sites
+      | k ∷ ks ↦ take MOST_CANDIDATES (by_distance site (k ∷ ks))
+    ]
 
 abbrev pub has_case : List Case → FailureId → Bool
 has_case cases id = list_any (λ (c : Case). is_same_failure c.id id) cases
@@ -48,8 +49,9 @@ abbrev pub opened_by : PlanOf → List Case → List Seen → List ℕ → Optio
 opened_by plan before past sites None = []
 opened_by plan before past sites (Some id) =
     elim (has_case before id || not (nat_lt (length before) MOST_CASES)) [
-      true ↦ []
-    | false ↦ record { id = id; opened = length past - 1; candidates = candidates_at (beginnings plan.image) (learned_of plan past) sites } ∷ [] ]
+      | true ↦ []
+      | false ↦ record { id = id; opened = length past - 1; candidates = candidates_at (beginnings plan.image) (learned_of plan past) sites } ∷ []
+    ]
 
 -- the cases of a history, in the order of their opening
 abbrev pub cases_from : PlanOf → List Case → List Seen → Entry → List Case

@@ -1,10 +1,9 @@
 -- Checked failures of a case, and the classes of its candidates (docs/REPAIR.md, "Classes").
-use Rattle.std.specs.Prelude.{ℕ, Bool, true, false, not, ◌&&◌, ◌==◌, ◌<◌, nat_le, nat_lt, if◌then◌else◌, List, [], ◌∷◌, length, filter, find, reverse, take, Option, Some, None}
+use Rattle.std.specs.Prelude.{ℕ, Bool, false, not, ◌&&◌, ◌==◌, nat_le, nat_lt, if◌then◌else◌, List, length, filter, find, reverse, take, Option, Some, None}
 use Rattle.std.specs.List.{list_all, list_any}
 use Rattle.cv_base.specs.declared.cases.Case.{Case}
 use Rattle.cv_base.specs.declared.cases.Class.{Class}
 use Rattle.cv_base.specs.declared.cases.Class.TheVariants.{Highly, Moderately, Slightly, Not}
-use Rattle.cv_base.specs.declared.entries.Entry.{Entry}
 use Rattle.cv_base.specs.declared.entries.TallyRow.{TallyRow}
 use Rattle.cv_base.specs.declared.patches.Patch.{Patch}
 use Rattle.cv_base.specs.declared.patches.Patch.TheVariants.{Check, Enforce}

@@ -1,11 +1,7 @@
 -- The plan that `drill` makes of a number (docs/FORMATS.md, "The generator of drill").
-use Rattle.std.specs.Prelude.{ℕ, suc, zero, ◌==◌, ◌+◌, ◌*◌, ◌/◌, ◌%◌, ◌^◌, true, false, if◌then◌else◌, List, [], ◌∷◌, map, length}
+use Rattle.std.specs.Prelude.{ℕ, suc, zero, ◌==◌, ◌+◌, ◌*◌, ◌/◌, ◌%◌, ◌^◌, true, false, if◌then◌else◌, List, [], ◌∷◌, length}
 use Rattle.std.specs.List.{flat_map}
-use Rattle.cv_base.specs.declared.image.Region.{Region}
-use Rattle.cv_base.specs.declared.image.Segment.{Segment}
-use Rattle.cv_base.specs.declared.plan.Mode.{Mode}
 use Rattle.cv_base.specs.declared.plan.Mode.TheVariants.{Learn, Live}
-use Rattle.cv_base.specs.declared.plan.Round.{Round}
 use Rattle.cv_base.specs.Picture.{Picture}
 use Rattle.cv_base.specs.PlanOf.{PlanOf}
 use Rattle.cv_mem.specs.Memory.{spelled}
@@ -19,10 +15,14 @@ calling_program =
 -- the flat image of some words
 abbrev pub flat_image : List ℕ → Picture
 flat_image words = record {
-  text_base = 0x10000; words = words; entry = 0x10000;
+  text_base = 0x10000;
+  words = words;
+  entry = 0x10000;
   segments = record {
     region = record { start = 0x10000; end = 0x10000 + 4 * length words; read = true; write = false; code = true };
-    bytes = flat_map (spelled 4) words } ∷ [] }
+    bytes = flat_map (spelled 4) words;
+  } ∷ [];
+}
 
 -- the linear congruential generator, and the input that its top two bits choose
 abbrev pub next_number : ℕ → ℕ
@@ -47,5 +47,9 @@ live_inputs (suc count) s = chosen_input (next_number s / 2 ^ 62) ∷ live_input
 
 abbrev pub drill_plan : ℕ → ℕ → PlanOf
 drill_plan number count = record {
-  image = flat_image calling_program; workers = 1; checks = 2; budget = 1000;
-  rounds = record { mode = Learn; inputs = first_input ∷ second_input ∷ [] } ∷ record { mode = Live; inputs = live_inputs count number } ∷ [] }
+  image = flat_image calling_program;
+  workers = 1;
+  checks = 2;
+  budget = 1000;
+  rounds = record { mode = Learn; inputs = first_input ∷ second_input ∷ [] } ∷ record { mode = Live; inputs = live_inputs count number } ∷ [];
+}

@@ -1,5 +1,5 @@
 -- An entry is honest where it says what its run did (docs/REPAIR.md, "Entries").
-use Rattle.std.specs.Prelude.{◌≡◌, ◌≢◌, ◌≤◌, ℕ, List, [], ◌∷◌, length, Option, Some, slice_get}
+use Rattle.std.specs.Prelude.{◌≡◌, ◌≢◌, ◌≤◌, ℕ, List, [], ◌∷◌, length, Some, slice_get}
 use Rattle.cv_base.specs.declared.entries.Adopted.{Adopted}
 use Rattle.cv_base.specs.declared.entries.Entry.{Entry}
 use Rattle.cv_base.specs.declared.plan.Mode.{Mode}

@@ -1,6 +1,5 @@
 -- Which repair of a case is installed, and where that changes (docs/REPAIR.md, "Installation").
-use Rattle.std.specs.Prelude.{ℕ, Bool, true, false, not, ◌&&◌, ◌==◌, ◌+◌, ◌-◌, if◌then◌else◌, List, [], ◌∷◌, ◌++◌, length, Option, Some, None}
-use Rattle.std.specs.List.{flat_map}
+use Rattle.std.specs.Prelude.{ℕ, Bool, true, false, ◌==◌, ◌+◌, if◌then◌else◌, List, [], ◌∷◌, ◌++◌, length, Option, Some, None}
 use Rattle.cv_base.specs.declared.cases.Case.{Case}
 use Rattle.cv_base.specs.declared.cases.Change.{Change}
 use Rattle.cv_base.specs.declared.cases.Repair.{Repair}
@@ -28,10 +27,12 @@ abbrev pub installed : PlanOf → ℕ → Case → List Seen → Option ℕ
 installed plan c case [] = None
 installed plan c case (s ∷ past) =
     elim (is_decided plan c case (s ∷ past)) [
-      false ↦ None
-    | true ↦ elim (is_decided plan c case past) [
-          false ↦ best_repair c case (repairs_of plan c case (s ∷ past)) (s ∷ past)
-        | true ↦ again plan c case s past (installed plan c case past) ] ]
+      | false ↦ None
+      | true ↦ elim (is_decided plan c case past) [
+        | false ↦ best_repair c case (repairs_of plan c case (s ∷ past)) (s ∷ past)
+        | true ↦ again plan c case s past (installed plan c case past)
+      ]
+    ]
 
 -- a case without candidates is dropped at once, and one without repairs when it is decided
 abbrev pub is_none : List Repair → Bool
@@ -44,8 +45,9 @@ is_empty_case case = length case.candidates == 0
 abbrev pub is_dropped : PlanOf → ℕ → Case → List Seen → Bool
 is_dropped plan c case past =
     elim (is_empty_case case) [
-      true ↦ true
-    | false ↦ elim (is_decided plan c case past) [ true ↦ is_none (repairs_of plan c case past) | false ↦ false ] ]
+      | true ↦ true
+      | false ↦ elim (is_decided plan c case past) [ true ↦ is_none (repairs_of plan c case past) | false ↦ false ]
+    ]
 
 -- the installed repair became another one at the entry
 abbrev pub change_to : ℕ → ℕ → Option ℕ → Option ℕ → List Change

@@ -1,16 +1,14 @@
 -- What `infer` and `drill` write (docs/FORMATS.md, "Texts of the commands").
-use Rattle.std.specs.Prelude.{ℕ, Bool, true, false, List, [], ◌∷◌, ◌++◌, length, filter, codes, is_some}
+use Rattle.std.specs.Prelude.{ℕ, Bool, true, false, List, [], ◌++◌, length, filter, codes, is_some}
 use Rattle.std.specs.Fmt.{decimal}
 use Rattle.std.specs.List.{flat_map}
 use Rattle.cv_base.specs.InvariantText.{invariant_text}
 use Rattle.cv_base.specs.declared.cases.Change.{Change}
 use Rattle.cv_base.specs.declared.ends.End.{End}
-use Rattle.cv_base.specs.declared.ends.End.TheVariants.{Exit, Failure, Budget}
+use Rattle.cv_base.specs.declared.ends.End.TheVariants.{Failure, Budget}
 use Rattle.cv_base.specs.declared.entries.Entry.{Entry}
 use Rattle.cv_base.specs.declared.entries.Observation.{Observation}
 use Rattle.cv_base.specs.declared.invariants.Invariant.{Invariant}
-use Rattle.cv_base.specs.declared.plan.Mode.{Mode}
-use Rattle.cv_base.specs.declared.plan.Mode.TheVariants.{Learn, Live}
 use Rattle.cv_base.specs.PlanOf.{PlanOf}
 use Rattle.cv_runs.specs.Learned.{learned, observations}
 use Rattle.cv_runs.specs.PlainRun.{Step, plain_run, end_of}
@@ -57,9 +55,9 @@ is_withdrawal change = is_some change.withdrawn
 abbrev pub drill_line : PlanOf → List Entry → Ledger → List ℕ
 drill_line plan past l =
     codes "runs " ++ decimal (length past) ++ codes " exits " ++ decimal (ends_with is_exit past)
-      ++ codes " failures " ++ decimal (ends_with is_failed past) ++ codes " budgets " ++ decimal (ends_with is_budget past)
-      ++ codes " cases " ++ decimal (length (cases plan l.seen)) ++ codes " versions " ++ decimal (length l.versions)
-      ++ codes " withdrawals " ++ decimal (length (filter is_withdrawal (changes plan l.seen)))
+    ++ codes " failures " ++ decimal (ends_with is_failed past) ++ codes " budgets " ++ decimal (ends_with is_budget past)
+    ++ codes " cases " ++ decimal (length (cases plan l.seen)) ++ codes " versions " ++ decimal (length l.versions)
+    ++ codes " withdrawals " ++ decimal (length (filter is_withdrawal (changes plan l.seen)))
 
 abbrev pub drill_text : PlanOf → List Entry → List ℕ
 drill_text plan past = line (drill_line plan past (ledger plan past))

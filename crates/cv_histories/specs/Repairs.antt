@@ -1,9 +1,9 @@
 -- The repairs of a case (docs/REPAIR.md, "Repairs").
-use Rattle.std.specs.Prelude.{ℕ, suc, Bool, true, false, not, ◌&&◌, ◌==◌, ◌+◌, if◌then◌else◌, List, [], ◌∷◌, ◌++◌, length, filter, map, Option, Some, None}
-use Rattle.std.specs.List.{filter_map, flat_map, list_any, range_with_len}
+use Rattle.std.specs.Prelude.{ℕ, Bool, true, false, ◌&&◌, ◌==◌, ◌+◌, if◌then◌else◌, List, [], ◌∷◌, ◌++◌, filter, map, Option, Some, None}
+use Rattle.std.specs.List.{flat_map}
 use Rattle.cv_base.specs.declared.cases.Case.{Case}
 use Rattle.cv_base.specs.declared.cases.Class.{Class}
-use Rattle.cv_base.specs.declared.cases.Class.TheVariants.{Highly, Moderately, Slightly, Not}
+use Rattle.cv_base.specs.declared.cases.Class.TheVariants.{Highly, Moderately}
 use Rattle.cv_base.specs.declared.cases.Repair.{Repair}
 use Rattle.cv_base.specs.declared.invariants.Invariant.{Invariant}
 use Rattle.cv_base.specs.declared.invariants.Invariant.TheVariants.{OneOf, Lower, LessThan, SpOffset}
@@ -92,5 +92,6 @@ repairs_for image candidates judged =
 abbrev pub repairs_of : PlanOf → ℕ → Case → List Seen → List Repair
 repairs_of plan c case past =
     elim (is_decided plan c case past) [
-      true ↦ repairs_for plan.image case.candidates (chosen (judged_from c 0 (first_checked plan c case past) case.candidates))
-    | false ↦ [] ]
+      | true ↦ repairs_for plan.image case.candidates (chosen (judged_from c 0 (first_checked plan c case past) case.candidates))
+      | false ↦ []
+    ]

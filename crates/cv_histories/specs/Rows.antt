@@ -1,6 +1,6 @@
 -- What an entry says of a run's steps: sites, and rows of checks and firings
 -- (docs/REPAIR.md, "Entries").
-use Rattle.std.specs.Prelude.{ℕ, suc, zero, Bool, true, false, not, ◌&&◌, ◌==◌, ◌+◌, if◌then◌else◌, List, [], ◌∷◌, ◌++◌, length, filter, map, fold, take, replicate}
+use Rattle.std.specs.Prelude.{ℕ, Bool, false, not, ◌==◌, List, [], ◌∷◌, length, filter, map, fold, take, replicate}
 use Rattle.std.specs.List.{flat_map}
 use Rattle.cv_base.specs.declared.ends.End.{End}
 use Rattle.cv_base.specs.declared.ends.End.TheVariants.{Failure}
@@ -70,7 +70,7 @@ tally_of checks =
 abbrev pub case_fired : ℕ → List FiredNote → List FiredRow
 case_fired case firings =
     map (λ index. record { case = case; index = index; count = length (filter (λ (f : FiredNote). f.index == index) firings) })
-      (distinct (map (λ (f : FiredNote). f.index) firings))
+    (distinct (map (λ (f : FiredNote). f.index) firings))
 
 -- a row for each repair that fired, ordered by case and index
 abbrev pub fired_of : List FiredNote → List FiredRow

@@ -1,5 +1,5 @@
 -- The runs of a plan, numbered from 0 through the rounds in order (docs/REPAIR.md, "Rounds").
-use Rattle.std.specs.Prelude.{ℕ, suc, ◌+◌, List, [], ◌∷◌, ◌++◌, map, Option, slice_get}
+use Rattle.std.specs.Prelude.{ℕ, ◌+◌, List, [], ◌∷◌, ◌++◌, map, Option, slice_get}
 use Rattle.cv_base.specs.declared.plan.Mode.{Mode}
 use Rattle.cv_base.specs.declared.plan.Round.{Round}
 use Rattle.cv_base.specs.PlanOf.{PlanOf}

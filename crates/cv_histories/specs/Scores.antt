@@ -1,8 +1,7 @@
 -- Wins, fails and scores of a repair over a history (docs/REPAIR.md, "Scores").
-use Rattle.std.specs.Prelude.{ℕ, suc, zero, ℤ, pos, ◌+ℤ◌, ◌-ℤ◌, Bool, true, false, ◌&&◌, ◌||◌, ◌==◌, ◌+◌, if◌then◌else◌, List, [], ◌∷◌, length, filter, int_lt, Option, Some, None}
+use Rattle.std.specs.Prelude.{ℕ, suc, zero, ℤ, pos, ◌-ℤ◌, Bool, true, false, ◌&&◌, ◌||◌, ◌==◌, ◌+◌, if◌then◌else◌, List, length, filter, int_lt, Option, Some, None}
 use Rattle.std.specs.List.{list_any}
 use Rattle.cv_base.specs.declared.cases.Case.{Case}
-use Rattle.cv_base.specs.declared.ends.End.{End}
 use Rattle.cv_base.specs.declared.ends.FailureId.{FailureId}
 use Rattle.cv_base.specs.declared.entries.Entry.{Entry}
 use Rattle.cv_base.specs.declared.entries.FiredRow.{FiredRow}
@@ -30,7 +29,7 @@ is_win c j s = has_fired c j s.entry && is_exit s.entry.end
 abbrev pub is_fail : ℕ → Case → ℕ → Seen → Bool
 is_fail c case j s =
     (has_fired c j s.entry && is_some_failure (failure_at s.entry.end))
-      || (is_failure case.id (failure_at s.entry.end) && list_any (is_enforce_of c j) s.last)
+    || (is_failure case.id (failure_at s.entry.end) && list_any (is_enforce_of c j) s.last)
 
 abbrev pub wins : ℕ → ℕ → List Seen → ℕ
 wins c j past = length (filter (is_win c j) past)

@@ -1,7 +1,7 @@
 -- A history with, beside each entry, the table of the entry's last adopted version. Histories
 -- here have their newest entry first (docs/REPAIR.md, "Histories").
-use Rattle.std.specs.Prelude.{ℕ, Bool, true, false, ◌&&◌, ◌==◌, List, [], ◌∷◌, ◌++◌, filter, Option, Some, None, option_map, option_and_then, unwrap_or, slice_get}
-use Rattle.std.specs.List.{flat_map, list_any, last_or}
+use Rattle.std.specs.Prelude.{ℕ, Bool, true, false, ◌&&◌, ◌==◌, List, [], ◌∷◌, filter, Option, Some, None, unwrap_or, slice_get}
+use Rattle.std.specs.List.{flat_map}
 use Rattle.cv_base.specs.declared.ends.CrashCause.{CrashCause}
 use Rattle.cv_base.specs.declared.ends.CrashCause.TheVariants as crash
 use Rattle.cv_base.specs.declared.ends.End.{End}

@@ -1,12 +1,11 @@
 -- The history in which the runs are taken in order by worker 0, each live run under the newest
 -- version of the entries before it (docs/REPAIR.md, "The serial history").
-use Rattle.std.specs.Prelude.{ℕ, suc, ◌+◌, ◌-◌, List, [], ◌∷◌, length, map, unwrap_or}
-use Rattle.cv_base.specs.declared.entries.Adopted.{Adopted}
+use Rattle.std.specs.Prelude.{ℕ, ◌+◌, ◌-◌, List, [], ◌∷◌, length, map, unwrap_or}
 use Rattle.cv_base.specs.declared.entries.Entry.{Entry}
 use Rattle.cv_base.specs.declared.plan.Mode.{Mode}
 use Rattle.cv_base.specs.declared.plan.Mode.TheVariants.{Learn, Live}
 use Rattle.cv_base.specs.PlanOf.{PlanOf}
-use Rattle.cv_runs.specs.PatchedRun.{PatchedStep, Table, run_under, entries_in, steps_of, notes_of}
+use Rattle.cv_runs.specs.PatchedRun.{PatchedStep, run_under, entries_in, steps_of, notes_of}
 use Rattle.cv_runs.specs.PlainRun.{Step, plain_run, end_of, state_left}
 use Rattle.cv_runs.specs.State.{start_state}
 use Rattle.cv_histories.specs.Rows.{sites_in, checks_in, firings_in, tally_of, fired_of}
@@ -17,25 +16,38 @@ use Rattle.cv_histories.specs.Versions.{Ledger, ledger, posted, newest_of}
 -- the entry of a learn run by worker 0, of its plain steps
 abbrev pub learn_entry : PlanOf → ℕ → Run → List Step → Entry
 learn_entry plan number run steps = record {
-  run = number; worker = 0; mode = Learn; adopted = [];
-  end = end_of steps; turns = length steps; sites = sites_in steps;
+  run = number;
+  worker = 0;
+  mode = Learn;
+  adopted = [];
+  end = end_of steps;
+  turns = length steps;
+  sites = sites_in steps;
   output = (state_left (start_state plan.image run.input) steps).output;
-  tally = []; fired = [] }
+  tally = [];
+  fired = [];
+}
 
 -- the entry of a live run by worker 0 that adopted one version at all its block entries
 abbrev pub live_entry : PlanOf → ℕ → Run → ℕ → List PatchedStep → Entry
 live_entry plan number run version steps = record {
-  run = number; worker = 0; mode = Live;
+  run = number;
+  worker = 0;
+  mode = Live;
   adopted = record { version = version; entries = entries_in steps } ∷ [];
-  end = end_of (steps_of steps); turns = length steps; sites = sites_in (steps_of steps);
+  end = end_of (steps_of steps);
+  turns = length steps;
+  sites = sites_in (steps_of steps);
   output = (state_left (start_state plan.image run.input) (steps_of steps)).output;
-  tally = tally_of (checks_in (notes_of steps)); fired = fired_of (firings_in (notes_of steps)) }
+  tally = tally_of (checks_in (notes_of steps));
+  fired = fired_of (firings_in (notes_of steps));
+}
 
 abbrev pub entry_of_mode : Mode → PlanOf → Ledger → ℕ → Run → Entry
 entry_of_mode Learn plan l number run = learn_entry plan number run (plain_run plan.image run.input plan.budget)
 entry_of_mode Live plan l number run =
     live_entry plan number run (length l.versions - 1)
-      (unwrap_or (run_under plan.image run.input plan.budget (newest_of l.versions)) [])
+    (unwrap_or (run_under plan.image run.input plan.budget (newest_of l.versions)) [])
 
 abbrev pub next_entry : PlanOf → Ledger → ℕ → Run → Entry
 next_entry plan l number run = entry_of_mode run.mode plan l number run

@@ -1,5 +1,5 @@
 -- The texts of actions, classes and rows (docs/FORMATS.md, "Text forms").
-use Rattle.std.specs.Prelude.{ℕ, ℤ, Bool, true, false, List, [], ◌∷◌, ◌++◌, map, codes, Option, Some, None}
+use Rattle.std.specs.Prelude.{ℕ, Bool, true, false, List, ◌++◌, codes, Option, Some, None}
 use Rattle.std.specs.Fmt.{decimal}
 use Rattle.cv_base.specs.declared.cases.Class.{Class}
 use Rattle.cv_base.specs.declared.cases.Class.TheVariants.{Highly, Moderately, Slightly, Not}
@@ -41,7 +41,7 @@ held_text false = codes "failed"
 abbrev pub tally_text : TallyRow → List ℕ
 tally_text r =
     decimal r.case ++ codes "." ++ decimal r.index ++ codes ":" ++ decimal r.checks ++ codes ":" ++ decimal r.violations
-      ++ codes ":" ++ held_text r.last_held
+    ++ codes ":" ++ held_text r.last_held
 
 abbrev pub fired_text : FiredRow → List ℕ
 fired_text r = decimal r.case ++ codes "." ++ decimal r.index ++ codes ":" ++ decimal r.count

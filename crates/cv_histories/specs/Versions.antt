@@ -1,6 +1,5 @@
 -- The table after a history, and the versions of its tables (docs/REPAIR.md, "Versions").
-use Rattle.std.specs.Prelude.{ℕ, Bool, true, false, not, ◌&&◌, ◌==◌, ◌+◌, ◌-◌, if◌then◌else◌, List, [], ◌∷◌, ◌++◌, length, map, reverse, Option, Some, None, slice_get, option_map, unwrap_or}
-use Rattle.std.specs.List.{list_all, zip}
+use Rattle.std.specs.Prelude.{ℕ, Bool, true, false, ◌&&◌, ◌==◌, ◌+◌, ◌-◌, if◌then◌else◌, List, [], ◌∷◌, ◌++◌, length, reverse, Option, Some, None, slice_get, unwrap_or}
 use Rattle.cv_base.specs.declared.cases.Case.{Case}
 use Rattle.cv_base.specs.declared.cases.Repair.{Repair}
 use Rattle.cv_base.specs.declared.entries.Entry.{Entry}
@@ -14,7 +13,7 @@ use Rattle.cv_runs.specs.Invariants.{key}
 use Rattle.cv_runs.specs.PatchedRun.{Table}
 use Rattle.cv_histories.specs.Cases.{cases}
 use Rattle.cv_histories.specs.Classes.{is_decided}
-use Rattle.cv_histories.specs.Installed.{installed, is_dropped}
+use Rattle.cv_histories.specs.Installed.{installed}
 use Rattle.cv_histories.specs.Repairs.{repairs_of}
 use Rattle.cv_histories.specs.Seen.{Seen, last_version, table_at}
 
@@ -40,8 +39,9 @@ installed_patch plan c case past (Some j) = enforce_of c j case (slice_get (repa
 abbrev pub case_table : PlanOf → ℕ → Case → List Seen → Table
 case_table plan c case past =
     elim (is_decided plan c case past) [
-      true ↦ installed_patch plan c case past (installed plan c case past)
-    | false ↦ checks_from c 0 case.candidates ]
+      | true ↦ installed_patch plan c case past (installed plan c case past)
+      | false ↦ checks_from c 0 case.candidates
+    ]
 
 abbrev pub tables_from : PlanOf → ℕ → List Case → List Seen → Table
 tables_from plan c [] past = []

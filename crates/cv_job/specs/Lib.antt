@@ -2,7 +2,6 @@ pub mod Answers
 pub mod Fields
 pub mod FirstBroken
 pub mod JobFaultText
-pub mod JobLine
 pub mod JobOf
 pub mod Json
 pub mod Limits

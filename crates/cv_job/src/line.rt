@@ -1,5 +1,5 @@
 ghost use Rattle.std.specs.Prelude.{◌≡◌, IfOk, string_bytes};
-ghost use Rattle.cv_job.specs.JobLine.{job_line, line_with};
+ghost use Rattle.cv_base.specs.PlanText.{job_line, line_with};
 
 use crate::count::runs_in;
 use cv_base::{NoMemory, Plan};

@@ -15,8 +15,8 @@ use Rattle.cv_shadow.specs.Frames.{frame_sp}
 -- what the patches of a run note: a candidate of a case was checked and held or not, or a repair
 -- of a case fired
 pub data Note : Type 0 where
-  Checked : ℕ → ℕ → Bool → Note      -- case, index, whether it held
-  Fired : ℕ → ℕ → Note               -- case, index
+  Checked : ℕ → ℕ → Bool → Note  -- case, index, whether it held
+  Fired : ℕ → ℕ → Note  -- case, index
 
 -- what patches leave: the core, their notes, and whether one of them used up the turn
 pub record Left : Type 0 where
@@ -72,7 +72,9 @@ abbrev pub apply : (ℕ → Bool) → ℕ → List Patch → Core → Left
 apply point p [] core = went_on core []
 apply point p (q ∷ qs) core =
     elim (patch_point q == p) [
-      false ↦ apply point p qs core
-    | true ↦ elim ((one_patch point q core).acted) [
-          true ↦ one_patch point q core
-        | false ↦ after (one_patch point q core) (apply point p qs (one_patch point q core).core) ] ]
+      | false ↦ apply point p qs core
+      | true ↦ elim ((one_patch point q core).acted) [
+        | true ↦ one_patch point q core
+        | false ↦ after (one_patch point q core) (apply point p qs (one_patch point q core).core)
+      ]
+    ]

@@ -1,6 +1,6 @@
 -- What the integer instructions compute of two operands.
 -- RISC-V Unprivileged ISA, 2.4 "Integer Computational Instructions", 2.5 "Conditional Branches".
-use Rattle.std.specs.Prelude.{ℕ, ℤ, Bool, false, not, ◌==◌, ◌+◌, ◌-◌, ◌*◌, ◌/◌, ◌%◌, ◌^◌, nat_lt, if◌then◌else◌, Option, Some, None, bit_and, bit_or, bit_xor, int_lt}
+use Rattle.std.specs.Prelude.{ℕ, Bool, false, not, ◌==◌, ◌+◌, ◌-◌, ◌*◌, ◌/◌, ◌%◌, ◌^◌, nat_lt, if◌then◌else◌, Option, Some, None, bit_and, bit_or, bit_xor, int_lt}
 use Rattle.std.specs.Int.{w32, cast_signed, cast_unsigned}
 use Rattle.std.specs.Int.Signed.{shr_z}
 use Rattle.cv_isa.specs.declared.operation.Op.{Op}

@@ -1,5 +1,5 @@
 -- Where a block begins, and so a run adopts a version (docs/REPAIR.md, "Block entries").
-use Rattle.std.specs.Prelude.{ℕ, Bool, true, false, ◌||◌, ◌==◌, ◌+◌, if◌then◌else◌, Option, Some, None}
+use Rattle.std.specs.Prelude.{ℕ, Bool, true, false, ◌||◌, ◌==◌, ◌+◌, Option, Some, None}
 
 -- whether a turn is a block entry: the first one is, the one after a transfer, and the 64th after
 -- the last block entry, which was `since` turns ago

@@ -1,8 +1,7 @@
 -- What each form of instruction does, its tests in their order (docs/MACHINE.md, "The nine tests").
 -- RISC-V Unprivileged ISA, 2.4 "Integer Computational Instructions", 2.5 "Control Transfer
 -- Instructions", 2.6 "Load and Store Instructions".
-use Rattle.std.specs.Prelude.{ℕ, Bool, true, false, not, ◌&&◌, ◌==◌, ◌-◌, ◌%◌, nat_lt, nat_le, if◌then◌else◌, List, [], ◌∷◌, length, Option, Some, None}
-use Rattle.cv_base.specs.declared.ends.CrashCause.{CrashCause}
+use Rattle.std.specs.Prelude.{ℕ, Bool, true, false, not, ◌&&◌, ◌-◌, ◌%◌, nat_le, if◌then◌else◌, List, ◌∷◌, length, Option, Some, None}
 use Rattle.cv_base.specs.declared.ends.CrashCause.TheVariants as crash
 use Rattle.cv_base.specs.declared.ends.FailureKind.{FailureKind}
 use Rattle.cv_base.specs.declared.ends.FailureKind.TheVariants.{IllegalTransfer, HeapGuard, ShadowStack, Crash}
@@ -14,19 +13,17 @@ use Rattle.cv_isa.specs.declared.operation.Op.TheVariants as op
 use Rattle.cv_isa.specs.Instruction.{Instruction}
 use Rattle.cv_isa.specs.declared.uses.LinkKind.{LinkKind}
 use Rattle.cv_isa.specs.declared.uses.LinkKind.TheVariants.{Nothing, Push, Pop, PopPush}
-use Rattle.cv_isa.specs.Uses.{link_kind_of}
 use Rattle.cv_heap.specs.Heap.{Heap, covers}
 use Rattle.cv_mem.specs.declared.space.MemFault.{MemFault}
 use Rattle.cv_mem.specs.declared.space.MemFault.TheVariants as fault
 use Rattle.cv_mem.specs.Memory.{load_fault, store_fault, loaded, stored}
 use Rattle.cv_shadow.specs.declared.TheConstants.{MOST_FRAMES}
-use Rattle.cv_shadow.specs.declared.frames.Core.{Core}
 use Rattle.cv_shadow.specs.declared.frames.Frame.{Frame}
 use Rattle.cv_shadow.specs.declared.frames.PopEnd.{PopEnd}
-use Rattle.cv_shadow.specs.declared.frames.PopEnd.TheVariants.{Match, Differs, Empty}
+use Rattle.cv_shadow.specs.declared.frames.PopEnd.TheVariants.{Match}
 use Rattle.cv_shadow.specs.Frames.{pop_end, popped}
 use Rattle.cv_runs.specs.Arithmetic.{plus32, is_taken}
-use Rattle.cv_runs.specs.State.{State, Outcome, Next, Ended, pc_of, x, moved, with_x, failed}
+use Rattle.cv_runs.specs.State.{State, Outcome, Next, pc_of, x, moved, with_x, failed}
 
 -- on to the next word, which has to be a point
 abbrev pub gone_on : Picture → State → Bool → Outcome

@@ -1,5 +1,5 @@
 -- What is learned of observations of normal runs (docs/REPAIR.md, "Learning").
-use Rattle.std.specs.Prelude.{ℕ, Bool, true, false, not, ◌&&◌, ◌||◌, ◌==◌, nat_le, nat_lt, if◌then◌else◌, List, [], ◌∷◌, ◌++◌, length, filter, map, fold, Option, Some, None, unwrap_or}
+use Rattle.std.specs.Prelude.{ℕ, Bool, not, ◌&&◌, ◌||◌, ◌==◌, nat_le, if◌then◌else◌, List, [], ◌∷◌, ◌++◌, length, filter, map, fold, unwrap_or}
 use Rattle.std.specs.BTreeSet.{insert_key}
 use Rattle.std.specs.List.{flat_map, list_all, list_any, reduce}
 use Rattle.std.specs.Ordering.{nat_cmp}
@@ -79,4 +79,4 @@ seen_at seen p = filter (λ (o : Observation). o.point == p) seen
 abbrev pub learned : Picture → List Observation → List Invariant
 learned image seen =
     flat_map (λ p. learned_at p (reads_at image p) (window_registers image p) (seen_at seen p))
-      (distinct (map (λ (o : Observation). o.point) seen))
+    (distinct (map (λ (o : Observation). o.point) seen))

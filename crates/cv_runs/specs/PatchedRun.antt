@@ -1,6 +1,6 @@
 -- A patched run: at each block entry a table is adopted, whose patches come before each turn
 -- until the next block entry (docs/REPAIR.md, "Patched runs").
-use Rattle.std.specs.Prelude.{ℕ, suc, zero, Bool, true, false, ◌==◌, ◌+◌, if◌then◌else◌, List, [], ◌∷◌, ◌++◌, length, filter, map, Option, Some, None, option_map, option_and_then, slice_get}
+use Rattle.std.specs.Prelude.{ℕ, suc, zero, Bool, true, false, ◌==◌, ◌+◌, if◌then◌else◌, List, [], ◌∷◌, length, filter, map, Option, Some, None, option_map, option_and_then, slice_get}
 use Rattle.std.specs.List.{flat_map}
 use Rattle.cv_base.specs.declared.patches.Patch.{Patch}
 use Rattle.cv_base.specs.Picture.{Picture, is_point}
@@ -25,15 +25,16 @@ with_core s core = record s { core = core }
 abbrev pub turn_after : Picture → State → Left → PatchedTurn
 turn_after image s left =
     elim (left.acted) [
-      true ↦ record { notes = left.notes; outcome = Next (with_core s left.core) true }
-    | false ↦ record { notes = left.notes; outcome = turn_of image (with_core s left.core) } ]
+      | true ↦ record { notes = left.notes; outcome = Next (with_core s left.core) true }
+      | false ↦ record { notes = left.notes; outcome = turn_of image (with_core s left.core) }
+    ]
 
 abbrev pub patched_turn : Picture → Table → State → PatchedTurn
 patched_turn image table s = turn_after image s (apply (is_point image) s.core.pc table s.core)
 
 pub record PatchedStep : Type 0 where
   pub before : State
-  pub enters : Bool           -- whether the turn is a block entry
+  pub enters : Bool  -- whether the turn is a block entry
   pub notes : List Note
   pub outcome : Outcome
 
@@ -53,8 +54,8 @@ patched_from image tables (suc budget) s since transferred made table =
     let enters = is_entry since transferred in
     let turn_with = λ (t : Table). patched_turn image t s in
     option_and_then (λ (t : Table). followed (patched_step s enters (turn_with t)) (turn_with t).outcome
-        (λ next transfer. patched_from image tables budget next (since_next enters since) transfer (if enters then made + 1 else made) t))
-      (if enters then tables made else Some table)
+    (λ next transfer. patched_from image tables budget next (since_next enters since) transfer (if enters then made + 1 else made) t))
+    (if enters then tables made else Some table)
 
 abbrev pub entries_in : List PatchedStep → ℕ
 entries_in steps = length (filter (λ (step : PatchedStep). step.enters) steps)
@@ -67,7 +68,7 @@ only_if test (Some a) = if test a then Some a else None
 abbrev pub patched_run : Picture → List ℕ → ℕ → List Table → Option (List PatchedStep)
 patched_run image input budget tables =
     only_if (λ steps. entries_in steps == length tables)
-      (patched_from image (slice_get tables) budget (start_state image input) None false 0 [])
+    (patched_from image (slice_get tables) budget (start_state image input) None false 0 [])
 
 -- the run under one table at all its block entries
 abbrev pub run_under : Picture → List ℕ → ℕ → Table → Option (List PatchedStep)

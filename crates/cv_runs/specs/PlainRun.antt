@@ -1,6 +1,6 @@
 -- A plain run: the turns from the start state on, up to the first that ends the run, or as many
 -- as the budget allows (docs/MACHINE.md, "Run").
-use Rattle.std.specs.Prelude.{ℕ, suc, zero, Bool, List, [], ◌∷◌, length}
+use Rattle.std.specs.Prelude.{ℕ, suc, zero, List, [], ◌∷◌}
 use Rattle.cv_base.specs.declared.ends.End.{End}
 use Rattle.cv_base.specs.declared.ends.End.TheVariants.{Budget}
 use Rattle.cv_base.specs.Picture.{Picture}

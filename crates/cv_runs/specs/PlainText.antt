@@ -20,4 +20,4 @@ abbrev pub plain_text : Picture → List ℕ → ℕ → List ℕ
 plain_text image input budget =
     let run = plain_run image input budget in
     codes "end " ++ end_text (end_of run) ++ codes "\nturns " ++ decimal (length run)
-      ++ codes "\noutput " ++ bytes_text (state_left (start_state image input) run).output ++ codes "\n"
+    ++ codes "\noutput " ++ bytes_text (state_left (start_state image input) run).output ++ codes "\n"

@@ -1,7 +1,6 @@
 -- The services of ECALL: x17 names the service, x10 to x12 are its arguments, x10 takes the answer
 -- (docs/MACHINE.md, "Services"). RISC-V Unprivileged ISA, 2.8 "Environment Call and Breakpoints".
-use Rattle.std.specs.Prelude.{ℕ, Bool, true, not, ◌||◌, ◌==◌, min, if◌then◌else◌, List, [], ◌∷◌, ◌++◌, length, take, drop}
-use Rattle.cv_base.specs.declared.ends.End.{End}
+use Rattle.std.specs.Prelude.{ℕ, true, not, ◌||◌, ◌==◌, min, if◌then◌else◌, ◌++◌, length, take, drop}
 use Rattle.cv_base.specs.declared.ends.End.TheVariants.{Exit}
 use Rattle.cv_base.specs.declared.ends.FailureKind.TheVariants.{HeapGuard}
 use Rattle.cv_base.specs.Picture.{Picture}

@@ -1,5 +1,5 @@
 -- The state of a run, and the outcome of a turn (docs/MACHINE.md, "State").
-use Rattle.std.specs.Prelude.{ℕ, Bool, true, false, List, []}
+use Rattle.std.specs.Prelude.{ℕ, Bool, List, []}
 use Rattle.cv_base.specs.declared.TheConstants.{STACK_END}
 use Rattle.cv_base.specs.declared.ends.End.{End}
 use Rattle.cv_base.specs.declared.ends.End.TheVariants.{Failure}
@@ -11,10 +11,10 @@ use Rattle.cv_mem.specs.Memory.{start_memory}
 use Rattle.cv_shadow.specs.declared.frames.Core.{Core}
 
 pub record State : Type 0 where
-  pub core : Core             -- pc, registers and frames, the top frame first
-  pub memory : ℕ → ℕ          -- the byte at an address, 0 where nothing was written
-  pub heap : Heap             -- the live blocks, and the next place
-  pub input : List ℕ          -- what was not read yet
+  pub core : Core  -- pc, registers and frames, the top frame first
+  pub memory : ℕ → ℕ  -- the byte at an address, 0 where nothing was written
+  pub heap : Heap  -- the live blocks, and the next place
+  pub input : List ℕ  -- what was not read yet
   pub output : List ℕ
 
 -- a turn goes on in another state, and says whether it was a transfer; or it ends the run and

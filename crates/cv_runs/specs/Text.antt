@@ -1,6 +1,6 @@
 -- What the text says of its points: registers read, windows and procedures
 -- (docs/REPAIR.md, "Windows and procedures").
-use Rattle.std.specs.Prelude.{ℕ, suc, zero, Bool, true, false, ◌&&◌, ◌||◌, ◌==◌, ◌+◌, ◌-◌, ◌*◌, max, min, nat_le, nat_lt, if◌then◌else◌, List, [], ◌∷◌, ◌++◌, length, filter, map, fold, Option, Some, None}
+use Rattle.std.specs.Prelude.{ℕ, suc, zero, Bool, true, false, ◌||◌, ◌==◌, ◌+◌, ◌-◌, ◌*◌, max, min, nat_le, nat_lt, if◌then◌else◌, List, [], ◌∷◌, length, filter, map, fold, Option, Some, None}
 use Rattle.std.specs.List.{filter_map, list_any, range_with_len}
 use Rattle.cv_base.specs.Picture.{Picture, is_point, word_at}
 use Rattle.cv_isa.specs.DecodeTable.{meaning_of}
@@ -33,8 +33,9 @@ abbrev pub points_before : Picture → ℕ → ℕ → List ℕ
 points_before image p zero = []
 points_before image p (suc count) =
     elim ((p == image.text_base) || transfers (inst_at image (p - 4))) [
-      true ↦ []
-    | false ↦ (p - 4) ∷ points_before image (p - 4) count ]
+      | true ↦ []
+      | false ↦ (p - 4) ∷ points_before image (p - 4) count
+    ]
 
 -- the window of p: p and up to seven points before it
 abbrev pub window : Picture → ℕ → List ℕ
