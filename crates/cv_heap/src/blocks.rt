@@ -1,4 +1,4 @@
-ghost use Rattle.std.specs.Prelude.{◌≡◌, ◌==◌, ◌&&◌, nat_le, ◌≤◌, ◌+◌, ◌<◌, if◌then◌else◌, Some, None, IfOk, length, MatchOption};
+ghost use Rattle.std.specs.Prelude.{◌≡◌, ◌==◌, ◌&&◌, nat_le, ◌≤◌, ◌+◌, ◌<◌, if◌then◌else◌, false, Some, None, IfOk, length, MatchOption};
 ghost use Rattle.cv_heap.specs.Heap.{empty_heap, has_room, with_block, begins_block, without_block, covers};
 ghost use Rattle.cv_heap.specs.Kept.{AreApart, IsHeap};
 ghost use Rattle.cv_heap.specs.Found.{NoneBegins, BeginsAt, NoneBegun, IsLastBegun};
@@ -87,6 +87,7 @@ impl Blocks {
     pub fn free(&mut self, addr: u32) -> bool
         ensures found { result ≡ begins_block self.old addr }
         ensures left { self.new ≡ without_block self.old addr }
+        ensures none { result ≡ false → self.new ≡ self.old }
     {
         match beginning(self.blocks.as_slice(), addr) {
             Some(at) => {

@@ -1,9 +1,6 @@
 -- How a call of `turn` tells the outcome of a turn.
-use Rattle.std.specs.Prelude.{◌≡◌, Bool, true}
-use Rattle.cv_base.specs.Picture.{Picture, is_point}
 use Rattle.cv_machine.specs.declared.turn.Turn.{Turn}
 use Rattle.cv_machine.specs.declared.turn.Turn.TheVariants as turn
-use Rattle.cv_machine.specs.Held.{Held, state_of}
 use Rattle.cv_runs.specs.State.{State, Outcome, Next, Ended}
 
 abbrev pub answer_of : Outcome → Turn

@@ -53,6 +53,7 @@ impl Machine {
     pub fn make(alloc: Global, image: &Image) -> Result<Machine, NoMemory>
         ensures image { IfOk result (λ m. m.image ≡ image.now) }
         ensures start { IfOk result (λ m. state_of m ≡ start_state image.now []) }
+        ensures point { IfOk result (λ m. IsTrue (is_point m.image m.core.pc)) }
     {
         let insts = decoded(alloc, image.words.as_slice())?;
         let space = Space::make(alloc, image)?;
@@ -78,6 +79,7 @@ impl Machine {
         requires { length input.now ≤ 65536 }
         ensures image { self.new.image ≡ self.old.image }
         ensures start { OnOk result (state_of self.new ≡ start_state self.old.image input.now) }
+        ensures point { OnOk result (IsTrue (is_point self.new.image self.new.core.pc)) }
         ensures err { OnErr result (self.new ≡ self.old) }
     {
         let input = Items::from_slice(alloc, input)?;
@@ -119,6 +121,7 @@ impl Machine {
 
     /// One turn: the instruction at the pc, with the nine tests in their order (docs/MACHINE.md,
     /// "The nine tests"). It never answers an end by budget, and takes no memory.
+    #[tactic(auto, unfolding(cv_runs::specs::PlainTurn::turn_of))]
     pub fn turn(&mut self) -> Turn
         requires { IsTrue (is_point self.old.image self.old.core.pc) }
         ensures answer { result ≡ answer_of (turn_of self.old.image (state_of self.old)) }

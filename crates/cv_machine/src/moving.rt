@@ -1,8 +1,10 @@
-ghost use Rattle.std.specs.Prelude.{◌≡◌, ◌≤◌, IsTrue};
+ghost use Rattle.std.specs.Prelude.{◌≡◌, ◌≤◌, ◌<◌, ◌*◌, ◌^◌, None, IsTrue, IfOk};
+ghost use Rattle.std.specs.Result.{result_err};
 ghost use Rattle.cv_base.specs.Picture.{is_point};
-ghost use Rattle.cv_base.specs.Regions.{is_heap, some_address};
+ghost use Rattle.cv_base.specs.Regions.{regions_of, is_heap, some_address};
 ghost use Rattle.cv_machine.specs.Answers.{answer_of, left_by};
 ghost use Rattle.cv_machine.specs.Held.{state_of};
+ghost use Rattle.cv_mem.specs.Memory.{memory_of, load_fault, store_fault, loaded, stored};
 ghost use Rattle.cv_mem.specs.SpaceOf.{IsSize};
 ghost use Rattle.cv_runs.specs.Effects.{loaded_turn, stored_turn, address_of, size_of, extended, crash_of, is_guarded};
 
@@ -21,10 +23,20 @@ impl Machine {
         ensures point { IsTrue (is_point self.new.image self.new.core.pc) }
     {
         let address = self.address(inst);
-        match self.space.load(address, size_of(inst.op)) {
+        match self.loaded(address, size_of(inst.op)) {
             Ok(value) => self.advance(inst.rd, extended(inst.op, value)),
             Err(fault) => self.fail(crash_of(fault), address),
         }
+    }
+
+    /// What a load finds in memory.
+    fn loaded(&self, address: u32, size: u32) -> Result<u32, MemFault>
+        requires { IsSize size }
+        ensures fault { result_err result ≡ load_fault (regions_of self.now.image) address size }
+        ensures value { IfOk result (λ v. v ≡ loaded (memory_of self.now.bytes) address size) }
+        ensures fits { IfOk result (λ v. v < 2 ^ (8 * size)) }
+    {
+        self.space.load(address, size)
     }
 
     /// A store of the low 1, 2 or 4 bytes of rs2 at rs1 plus the immediate.
@@ -37,7 +49,7 @@ impl Machine {
     {
         let address = self.address(inst);
         let size = size_of(inst.op);
-        if let Some(fault) = self.space.store_fault(address, size) {
+        if let Some(fault) = self.store_fault(address, size) {
             return self.fail(crash_of(fault), address);
         }
         if self.is_guarded(address, size) {
@@ -48,9 +60,27 @@ impl Machine {
             return self.fail(FailureKind::IllegalTransfer, next);
         }
         let value = self.core.regs.get(inst.rs2);
+        self.put(address, size, value);
+        self.go_on(false)
+    }
+
+    /// Why a store is refused, if it is.
+    fn store_fault(&self, address: u32, size: u32) -> Option<MemFault>
+        requires { IsSize size }
+        ensures { result ≡ store_fault (regions_of self.now.image) address size }
+    {
+        self.space.store_fault(address, size)
+    }
+
+    /// The low bytes of a value go to memory.
+    fn put(&mut self, address: u32, size: u32, value: u32)
+        requires sized { IsSize size }
+        requires allowed { store_fault (regions_of self.old.image) address size ≡ None }
+        ensures state { state_of self.new ≡ record (state_of self.old) { memory = stored (memory_of self.old.bytes) address size value } }
+        ensures core { self.new.core ≡ self.old.core }
+        ensures image { self.new.image ≡ self.old.image }
+    {
         self.space.put(address, size, value);
-        self.core.pc = next;
-        Turn::Next { transfer: false }
     }
 
     /// The address of a load or a store.
@@ -70,6 +100,7 @@ impl Machine {
 }
 
 /// Whether one of the `count` addresses from `address` on lies in the heap.
+#[tactic(auto, using(crate::proofs::HeapTouched::heap_touched))]
 fn touches_heap(address: u32, count: u32) -> bool
     requires { 1 ≤ count }
     ensures { result ≡ some_address is_heap address count }
@@ -92,6 +123,7 @@ fn size_of(op: Op) -> u32
 
 /// LB and LH extend the sign.
 fn extended(op: Op, value: u32) -> u32
+    requires { value < 2 ^ (8 * size_of op) }
     ensures { result ≡ extended op value }
 {
     match op {

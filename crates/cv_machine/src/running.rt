@@ -13,6 +13,7 @@ pub fn run(machine: &mut Machine, budget: u32) -> (End, u32)
     ensures turns { result.1 ≡ length (steps_from machine.old.image budget (state_of machine.old)) }
     ensures state { state_of machine.new ≡ state_left (state_of machine.old) (steps_from machine.old.image budget (state_of machine.old)) }
     ensures image { machine.new.image ≡ machine.old.image }
+    ensures point { IsTrue (is_point machine.new.image machine.new.core.pc) }
 {
     for done in 0..budget {
         match machine.turn() {

@@ -166,11 +166,8 @@ impl Machine {
     fn take_input(&mut self, address: u32, count: u32)
         requires left { count ≤ length self.old.input }
         requires room { each_address (is_writable (regions_of self.old.image)) address count ≡ true }
-        ensures memory { memory_of self.new.bytes ≡ with_bytes (memory_of self.old.bytes) address (take count self.old.input) }
-        ensures input { self.new.input ≡ drop count self.old.input }
+        ensures state { state_of self.new ≡ record (state_of self.old) { memory = with_bytes (memory_of self.old.bytes) address (take count self.old.input); input = drop count self.old.input } }
         ensures core { self.new.core ≡ self.old.core }
-        ensures heap { self.new.heap ≡ self.old.heap }
-        ensures output { self.new.output ≡ self.old.output }
         ensures image { self.new.image ≡ self.old.image }
     {
         let end = self.taken + count as usize;
@@ -180,13 +177,11 @@ impl Machine {
     }
 
     /// The `count` bytes at an address go to the output, as far as it has room.
+    #[tactic(auto, using(crate::proofs::OutputKept::kept))]
     fn add_output(&mut self, address: u32, count: u32)
         requires { each_address (is_readable (regions_of self.old.image)) address count ≡ true }
-        ensures output { self.new.output ≡ take MOST_OUTPUT (self.old.output ++ bytes_at (memory_of self.old.bytes) address count) }
-        ensures bytes { self.new.bytes ≡ self.old.bytes }
-        ensures input { self.new.input ≡ self.old.input }
+        ensures state { state_of self.new ≡ record (state_of self.old) { output = take MOST_OUTPUT (self.old.output ++ bytes_at (memory_of self.old.bytes) address count) } }
         ensures core { self.new.core ≡ self.old.core }
-        ensures heap { self.new.heap ≡ self.old.heap }
         ensures image { self.new.image ≡ self.old.image }
     {
         let room = MOST_OUTPUT as usize - self.output.len();

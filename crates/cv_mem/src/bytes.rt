@@ -1,4 +1,4 @@
-ghost use Rattle.std.specs.Prelude.{◌≡◌, ℕ, ◌+◌, ◌<◌, ◌≤◌, length, replicate, IfOk};
+ghost use Rattle.std.specs.Prelude.{◌≡◌, ℕ, ◌+◌, ◌*◌, ◌^◌, ◌<◌, ◌≤◌, length, replicate, IfOk};
 ghost use Rattle.cv_mem.specs.Memory.{memory_of, loaded, stored, with_bytes, bytes_at};
 ghost use Rattle.cv_mem.specs.SpaceOf.{memory_size, IsSize};
 
@@ -27,7 +27,8 @@ pub fn zeros(alloc: Global, len: usize) -> Result<Vec<u8>, NoMemory>
 pub fn number_at(bytes: &[u8], at: usize, size: u32) -> u32
     requires sized { IsSize size }
     requires within { at + size ≤ length bytes.now }
-    ensures { result ≡ loaded (memory_of bytes.now) at size }
+    ensures value { result ≡ loaded (memory_of bytes.now) at size }
+    ensures fits { result < 2 ^ (8 * size) }
 {
     match size {
         1 => u32::from(bytes[at]),

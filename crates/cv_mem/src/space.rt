@@ -1,4 +1,4 @@
-ghost use Rattle.std.specs.Prelude.{◌≡◌, ◌==◌, ◌+◌, ◌%◌, ◌≤◌, Bool, true, None, IfOk, OnOk, OnErr, List, length, ℕ};
+ghost use Rattle.std.specs.Prelude.{◌≡◌, ◌==◌, ◌+◌, ◌*◌, ◌%◌, ◌^◌, ◌<◌, ◌≤◌, Bool, true, None, IfOk, OnOk, OnErr, List, length, ℕ};
 ghost use Rattle.std.specs.List.{list_all};
 ghost use Rattle.std.specs.Result.{result_err};
 ghost use Rattle.cv_base.specs.Regions.{regions_of, is_readable, is_writable, each_address};
@@ -69,7 +69,8 @@ impl Space {
     #[inline]
     pub fn load(&self, addr: u32, size: u32) -> Result<u32, MemFault>
         requires { IsSize size }
-        ensures { result ≡ load_of self.now addr size }
+        ensures value { result ≡ load_of self.now addr size }
+        ensures fits { IfOk result (λ v. v < 2 ^ (8 * size)) }
     {
         match self.load_fault(addr, size) {
             Some(fault) => Err(fault),

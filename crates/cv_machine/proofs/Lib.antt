@@ -1,0 +1,4 @@
+pub mod Faults
+pub mod HeapTouched
+pub mod OutputKept
+pub mod Remains
