@@ -20,7 +20,7 @@ const JOB_LIMIT: u32 = 16_777_216;
 
 /// The image that a file holds, or the cause against it (docs/FORMATS.md, "Causes and statuses").
 /// It fetches once.
-#[tactic(auto, using(crate::proofs::Fetching::image_gives))]
+#[tactic(auto, using(crate::proofs::Fetching::image_read, crate::proofs::Fetching::image_unread))]
 pub fn image_of<S: Store>(alloc: Global, store: &mut S, name: &str) -> Result<Image, Cause>
     ensures gives { IfSome (S.told store.old) (λ held. Gives (image_in (held.file name.now)) result) }
     ensures early { IfErr result IsEarly }
@@ -33,7 +33,7 @@ pub fn image_of<S: Store>(alloc: Global, store: &mut S, name: &str) -> Result<Im
 
 /// The job that a file holds, or the cause against it (docs/FORMATS.md, "Causes and statuses"). It
 /// fetches once.
-#[tactic(auto, using(crate::proofs::Fetching::job_gives))]
+#[tactic(auto, using(crate::proofs::Fetching::job_read, crate::proofs::Fetching::job_unread))]
 pub fn job_of<S: Store>(alloc: Global, store: &mut S, name: &str) -> Result<Job, Cause>
     ensures gives { IfSome (S.told store.old) (λ held. Gives (job_in (held.file name.now)) result) }
     ensures early { IfErr result IsEarly }

@@ -56,6 +56,7 @@ fn written<K: Sink>(sink: &mut K, text: &str) -> Cause
 }
 
 /// The text of the command that words are, or the cause against it.
+#[tactic(auto, using(crate::proofs::Commands::fetches_none))]
 fn text_of<S: Store>(alloc: Global, words: &[String], store: &mut S) -> Result<String, Cause>
     ensures gives { IfSome (S.told store.old) (λ held. GivesText (verdict_of (map string_bytes words.now) held.file) result) }
     ensures usage { IsErrOf result Cause.Usage ↔ (command_of (map string_bytes words.now) ≡ None) }
@@ -91,6 +92,7 @@ fn command_text<S: Store>(
     }
 }
 
+#[tactic(auto, using(crate::proofs::Commands::plain_ran, crate::proofs::Commands::plain_against))]
 fn plain<S: Store>(
     alloc: Global,
     store: &mut S,
@@ -108,6 +110,7 @@ fn plain<S: Store>(
     Ok(plain_text(alloc, &image, input, budget)?)
 }
 
+#[tactic(auto, using(crate::proofs::Commands::check_went_on, crate::proofs::Commands::check_stopped, crate::proofs::Commands::fetches_more, crate::proofs::Commands::fetches_twice))]
 fn check<S: Store>(alloc: Global, store: &mut S, job: &str) -> Result<String, Cause>
     ensures gives { IfSome (S.told store.old) (λ held. GivesText (verdict_by (Some (Check job.now)) held.file) result) }
     ensures early { IfErr result IsEarly }
@@ -119,6 +122,7 @@ fn check<S: Store>(alloc: Global, store: &mut S, job: &str) -> Result<String, Ca
 }
 
 /// What `check` writes of a job, whose image is fetched by its name.
+#[tactic(auto, using(crate::proofs::Commands::check_ran, crate::proofs::Commands::check_against))]
 fn check_job<S: Store>(alloc: Global, store: &mut S, job: Job) -> Result<String, Cause>
     ensures gives { IfSome (S.told store.old) (λ held. GivesText (check_by job held.file) result) }
     ensures early { IfErr result IsEarly }

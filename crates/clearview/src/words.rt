@@ -1,6 +1,8 @@
-ghost use Rattle.std.specs.Prelude.{◌≡◌, ◌↔◌, ◌≤◌, ℕ, List, Ok, Some, None, is_some, length, map, string_bytes, IfOk, IfSome, IsErr, IsSome, IsTrue};
+ghost use Rattle.std.specs.Prelude.{◌≡◌, ◌↔◌, ◌≤◌, ℕ, List, Ok, Some, None, is_some, length, map, string_bytes, IfOk, IfSome, IsErr, IsSome, IsTrue, if◌then◌else◌};
+ghost use Rattle.std.specs.Char.{is_ascii_hexdigit};
+ghost use Rattle.std.specs.List.{list_all};
 ghost use Rattle.std.specs.Option.{option_map};
-ghost use Rattle.clearview.specs.Words.{command_of, IsShort, plain_of, is_name, budget_of, input_of};
+ghost use Rattle.clearview.specs.Words.{command_of, IsShort, plain_of, is_digit, is_name, number_from, budget_of, input_of};
 ghost use Rattle.clearview.specs.Views.{command_view};
 
 use cv_base::{Items, NoMemory};
@@ -94,6 +96,18 @@ fn budget_in(word: &str) -> Option<u32>
     if digits.is_empty() || digits.len() > 8 {
         return None;
     }
+    let value = number_in(digits)?;
+    if value == 0 || value > MAX_BUDGET {
+        return None;
+    }
+    Some(value)
+}
+
+/// The number that at most 8 decimal digits write; None where one is no digit.
+fn number_in(digits: &[u8]) -> Option<u32>
+    requires { length digits.now ≤ 8 }
+    ensures { result ≡ (if list_all is_digit digits.now then Some (number_from 0 digits.now) else None) }
+{
     let mut value = 0u32;
     for digit in digits {
         if !digit.is_ascii_digit() {
@@ -101,13 +115,11 @@ fn budget_in(word: &str) -> Option<u32>
         }
         value = 10 * value + u32::from(*digit - b'0');
     }
-    if value == 0 || value > MAX_BUDGET {
-        return None;
-    }
     Some(value)
 }
 
 /// Whether a word is an input; `input_in` has its bytes.
+#[tactic(auto, using(crate::proofs::Inputs::input_test))]
 fn is_input(word: &str) -> bool
     ensures { result ≡ is_some (input_of word.now) }
 {
@@ -118,9 +130,16 @@ fn is_input(word: &str) -> bool
     if digits.len() < 2 || digits.len() > MAX_INPUT_DIGITS || digits.len() % 2 != 0 {
         return false;
     }
+    are_hex_digits(digits)
+}
+
+fn are_hex_digits(digits: &[u8]) -> bool
+    ensures { result ≡ list_all is_ascii_hexdigit digits.now }
+{
     digits.iter().all(|digit| digit.is_ascii_hexdigit())
 }
 
+#[tactic(auto, using(crate::proofs::Inputs::decoded_short))]
 fn input_in(alloc: Global, word: &str) -> Result<Items<u8>, NoMemory>
     requires { IsSome (input_of word.now) }
     ensures value { IfOk result (λ bytes. input_of word.now ≡ Some bytes) }
