@@ -33,3 +33,15 @@ abbrev pub Writes : Verdict → Cause → Option (List ℕ) → Option (List ℕ
 Writes (Ok text) cause.Done old new = Appends old new text
 Writes (Ok text) cause.SinkFault old new = AppendsPrefix old new text
 Writes _ _ old new = Keeps old new
+
+-- where the store doesn't tell, too, nothing is written but with Done or a fault of the sink
+abbrev pub Silent : Cause → Option (List ℕ) → Option (List ℕ) → Type 0
+Silent cause.Done old new = Unit {0}
+Silent cause.SinkFault old new = Unit {0}
+Silent _ old new = Keeps old new
+
+-- where there is a text, and no fault of the store or the sink, want of memory alone keeps it from
+-- being written
+abbrev pub Completes : Verdict → Type 0 → Type 0 → Cause → Type 0
+Completes verdict StoreRose SinkRose c =
+    (text : List ℕ) → verdict ≡ Ok text → ¬ StoreRose → ¬ SinkRose → (c ≡ cause.Done) ⊎ (c ≡ cause.NoMemory)

@@ -1,5 +1,5 @@
 -- Which lists of words are commands (docs/FORMATS.md, "Words").
-use Rattle.std.specs.Prelude.{ℕ, Bool, true, false, not, ◌&&◌, ◌==◌, ◌+◌, ◌-◌, ◌*◌, ◌%◌, nat_le, if◌then◌else◌, List, [], ◌∷◌, length, codes, Option, Some, None, option_and_then, option_map}
+use Rattle.std.specs.Prelude.{ℕ, Bool, true, false, not, ◌&&◌, ◌==◌, ◌+◌, ◌-◌, ◌*◌, ◌%◌, ◌≤◌, nat_le, if◌then◌else◌, List, [], ◌∷◌, length, codes, Option, Some, None, option_and_then, option_map}
 use Rattle.std.specs.List.{list_all}
 use Rattle.std.specs.Result.{result_ok}
 use Rattle.std.specs.Str.{bytes_eq}
@@ -51,3 +51,8 @@ abbrev pub files_named : Option Command → ℕ
 files_named None = 0
 files_named (Some (Plain image budget input)) = 1
 files_named (Some (Check job)) = 2
+
+-- an input has at most 65,536 bytes
+abbrev pub IsShort : Command → Type 0
+IsShort (Plain image budget input) = length input ≤ 65536
+IsShort (Check job) = Unit {0}

@@ -1,7 +1,10 @@
 ghost use Rattle.std.specs.Prelude.{◌≡◌};
+ghost use Rattle.clearview.specs.Causes.{status_of};
 
-use cv_base::ImageFault;
-use cv_job::JobFault;
+use cv_base::{ImageFail, ImageFault, NoMemory};
+use cv_edge::FetchFail;
+use cv_job::{JobFail, JobFault};
+use std::fmt;
 
 /// How a call ended. Each has its status (docs/FORMATS.md, "Causes and statuses").
 #[derive(Clone, Copy, Debug, PartialEq, Eq)]
@@ -51,4 +54,79 @@ impl Cause {
 pub struct Finish {
     pub status: u8,
     pub cause: Cause,
+}
+
+impl fmt::Display for Cause {
+    ghost use Rattle.std.specs.Prelude.{Some};
+    ghost use Rattle.clearview.specs.CauseText.{cause_text};
+
+    ghost output = { λ c. Some (cause_text c) };
+
+    fn fmt<W: fmt::Write>(&self, f: &mut fmt::Formatter<W>) -> fmt::Result {
+        match self {
+            Cause::Done => write!(f, "clearview: done"),
+            Cause::Usage => write!(f, "clearview: usage"),
+            Cause::FileMissing => write!(f, "clearview: no such file"),
+            Cause::JobLong => write!(f, "clearview: job too long"),
+            Cause::JobRefused(fault) => write!(f, "clearview: job refused: {fault}"),
+            Cause::ImageLong => write!(f, "clearview: image too long"),
+            Cause::ImageRefused(fault) => write!(f, "clearview: image refused: {fault}"),
+            Cause::NoMemory => write!(f, "clearview: out of memory"),
+            Cause::StoreFault => write!(f, "clearview: cannot read"),
+            Cause::SinkFault => write!(f, "clearview: cannot write"),
+        }
+    }
+}
+
+impl From<NoMemory> for Cause {
+    ghost use Rattle.std.specs.Prelude.{◌≡◌};
+    ghost use Rattle.clearview.specs.declared.cause.Cause.TheVariants as cause;
+
+    ghost from_gives = { λ _ r. r ≡ cause.NoMemory };
+
+    fn from(_error: NoMemory) -> Cause {
+        Cause::NoMemory
+    }
+}
+
+impl From<FetchFail> for Cause {
+    ghost use Rattle.std.specs.Prelude.{◌≡◌};
+    ghost use Rattle.clearview.specs.Froms.{from_fetch};
+
+    ghost from_gives = { λ e r. r ≡ from_fetch e };
+
+    fn from(error: FetchFail) -> Cause {
+        match error {
+            FetchFail::Failed => Cause::StoreFault,
+            FetchFail::NoMemory => Cause::NoMemory,
+        }
+    }
+}
+
+impl From<ImageFail> for Cause {
+    ghost use Rattle.std.specs.Prelude.{◌≡◌};
+    ghost use Rattle.clearview.specs.Froms.{from_image};
+
+    ghost from_gives = { λ e r. r ≡ from_image e };
+
+    fn from(error: ImageFail) -> Cause {
+        match error {
+            ImageFail::Refused(fault) => Cause::ImageRefused(fault),
+            ImageFail::NoMemory => Cause::NoMemory,
+        }
+    }
+}
+
+impl From<JobFail> for Cause {
+    ghost use Rattle.std.specs.Prelude.{◌≡◌};
+    ghost use Rattle.clearview.specs.Froms.{from_job};
+
+    ghost from_gives = { λ e r. r ≡ from_job e };
+
+    fn from(error: JobFail) -> Cause {
+        match error {
+            JobFail::Refused(fault) => Cause::JobRefused(fault),
+            JobFail::NoMemory => Cause::NoMemory,
+        }
+    }
 }

@@ -1,0 +1,59 @@
+-- What the bytes of a file say of its image and its job.
+use Rattle.std.proofs.Common.{◌≡◌, ℕ, List, Option, Some, None, Result, Ok, Err, IfSome, arith, inl, inr}
+use Rattle.std.proofs.lemmas.Bool.Decides.{nat_tests}
+use Rattle.cv_base.specs.Picture.{Picture}
+use Rattle.cv_edge.specs.Edge.{Held}
+use Rattle.cv_job.specs.JobOf.{JobOf}
+use Rattle.cv_job.specs.Reading.{reading_of}
+use Rattle.clearview.specs.declared.cause.Cause.{Cause}
+use Rattle.clearview.specs.declared.cause.Cause.TheVariants as cause
+use Rattle.clearview.specs.Gives.{Gives, bytes_in}
+use Rattle.clearview.specs.Verdict.{image_in, image_reading, job_in, refused}
+
+image_whole : (file : Option (List ℕ)) (bytes : List ℕ) → bytes_in 4194304 cause.ImageLong file ≡ Ok bytes
+    → image_in file ≡ refused (λ f. cause.ImageRefused f) (image_reading bytes)
+image_whole None bytes e = cc e
+image_whole (Some all) bytes e = grind (arith, nat_tests, e)
+
+image_against : (file : Option (List ℕ)) (c : Cause) → bytes_in 4194304 cause.ImageLong file ≡ Err c → image_in file ≡ Err c
+image_against None c e = cc e
+image_against (Some all) c e = grind (arith, nat_tests, e)
+
+job_whole : (file : Option (List ℕ)) (bytes : List ℕ) → bytes_in 16777216 cause.JobLong file ≡ Ok bytes
+    → job_in file ≡ refused (λ f. cause.JobRefused f) (reading_of bytes)
+job_whole None bytes e = cc e
+job_whole (Some all) bytes e = grind (arith, nat_tests, e)
+
+job_against : (file : Option (List ℕ)) (c : Cause) → bytes_in 16777216 cause.JobLong file ≡ Err c → job_in file ≡ Err c
+job_against None c e = cc e
+job_against (Some all) c e = grind (arith, nat_tests, e)
+
+-- where the bytes are read
+pub image_read : (told : Option Held) (name bytes : List ℕ) (r : Result Picture Cause)
+    → IfSome told (λ held. Gives (bytes_in 4194304 cause.ImageLong (held.file name)) (Ok bytes))
+    → Gives (refused (λ f. cause.ImageRefused f) (image_reading bytes)) r
+    → IfSome told (λ held. Gives (image_in (held.file name)) r)
+image_read None name bytes r whole gives = tt
+image_read (Some held) name bytes r whole gives = rw (image_whole (held.file name) bytes whole) gives
+
+pub job_read : (told : Option Held) (name bytes : List ℕ) (r : Result JobOf Cause)
+    → IfSome told (λ held. Gives (bytes_in 16777216 cause.JobLong (held.file name)) (Ok bytes))
+    → Gives (refused (λ f. cause.JobRefused f) (reading_of bytes)) r
+    → IfSome told (λ held. Gives (job_in (held.file name)) r)
+job_read None name bytes r whole gives = tt
+job_read (Some held) name bytes r whole gives = rw (job_whole (held.file name) bytes whole) gives
+
+-- where there are none
+pub image_unread : (told : Option Held) (name : List ℕ) (c : Cause)
+    → IfSome told (λ held. Gives (bytes_in 4194304 cause.ImageLong (held.file name)) (Err c))
+    → IfSome told (λ held. Gives (image_in (held.file name)) (Err c))
+image_unread None name c against = tt
+image_unread (Some held) name c (inl e) = inl (image_against (held.file name) c e)
+image_unread (Some held) name c (inr free) = inr free
+
+pub job_unread : (told : Option Held) (name : List ℕ) (c : Cause)
+    → IfSome told (λ held. Gives (bytes_in 16777216 cause.JobLong (held.file name)) (Err c))
+    → IfSome told (λ held. Gives (job_in (held.file name)) (Err c))
+job_unread None name c against = tt
+job_unread (Some held) name c (inl e) = inl (job_against (held.file name) c e)
+job_unread (Some held) name c (inr free) = inr free

@@ -1,0 +1,4 @@
+pub mod Commands
+pub mod Fetching
+pub mod HexText
+pub mod Inputs

@@ -1,0 +1,21 @@
+-- The cause that a failure of a call below is.
+use Rattle.cv_base.specs.declared.image.ImageFail.{ImageFail}
+use Rattle.cv_base.specs.declared.image.ImageFail.TheVariants as image
+use Rattle.cv_edge.specs.declared.store.FetchFail.{FetchFail}
+use Rattle.cv_edge.specs.declared.store.FetchFail.TheVariants as fetch
+use Rattle.cv_job.specs.declared.job.JobFail.{JobFail}
+use Rattle.cv_job.specs.declared.job.JobFail.TheVariants as job
+use Rattle.clearview.specs.declared.cause.Cause.{Cause}
+use Rattle.clearview.specs.declared.cause.Cause.TheVariants as cause
+
+abbrev pub from_fetch : FetchFail → Cause
+from_fetch fetch.Failed = cause.StoreFault
+from_fetch fetch.NoMemory = cause.NoMemory
+
+abbrev pub from_image : ImageFail → Cause
+from_image (image.Refused fault) = cause.ImageRefused fault
+from_image image.NoMemory = cause.NoMemory
+
+abbrev pub from_job : JobFail → Cause
+from_job (job.Refused fault) = cause.JobRefused fault
+from_job job.NoMemory = cause.NoMemory

@@ -1,0 +1,9 @@
+-- The command that a reading of words answers.
+use Rattle.std.specs.Prelude.{ℕ, List}
+use Rattle.clearview.specs.declared.words.Command.{Command as Reading}
+use Rattle.clearview.specs.declared.words.Command.TheVariants as reading
+use Rattle.clearview.specs.Words.{Command, Plain, Check}
+
+abbrev pub command_view : Reading → Command
+command_view (reading.Plain image budget input) = Plain image.now budget input
+command_view (reading.Check job) = Check job.now

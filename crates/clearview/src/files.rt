@@ -1,0 +1,81 @@
+ghost use Rattle.std.specs.Prelude.{◌≡◌, ◌≢◌, IfErr, IfSome, IsErrOf};
+ghost use Rattle.cv_edge.specs.Edge.{FetchesOnce, HasCause};
+ghost use Rattle.clearview.specs.Gives.{Gives, IsEarly, bytes_in};
+ghost use Rattle.clearview.specs.Verdict.{image_in, image_reading, job_in, refused};
+ghost use Rattle.clearview.specs.declared.cause.Cause.TheVariants as cause;
+
+use crate::cause::Cause;
+use cv_base::{Image, Items};
+use cv_edge::{Fetched, Store};
+use cv_elf::elf;
+use cv_image::flat;
+use cv_job::{Job, read_job};
+use std::alloc::Global;
+
+/// The most bytes that an image's file may have.
+const IMAGE_LIMIT: u32 = 4_194_304;
+
+/// The most bytes that a job's file may have.
+const JOB_LIMIT: u32 = 16_777_216;
+
+/// The image that a file holds, or the cause against it (docs/FORMATS.md, "Causes and statuses").
+/// It fetches once.
+#[tactic(auto, using(crate::proofs::Fetching::image_read, crate::proofs::Fetching::image_unread))]
+pub fn image_of<S: Store>(alloc: Global, store: &mut S, name: &str) -> Result<Image, Cause>
+    ensures gives { IfSome (S.told store.old) (λ held. Gives (image_in (held.file name.now)) result) }
+    ensures early { IfErr result IsEarly }
+    ensures fault { HasCause (S.faults store.old) (S.faults store.new) (IsErrOf result Cause.StoreFault) }
+    ensures fetches { FetchesOnce (S.told store.old) (S.told store.new) }
+{
+    let bytes = bytes_of(alloc, store, name, IMAGE_LIMIT, Cause::ImageLong)?;
+    read_image(alloc, bytes.as_slice())
+}
+
+/// The job that a file holds, or the cause against it (docs/FORMATS.md, "Causes and statuses"). It
+/// fetches once.
+#[tactic(auto, using(crate::proofs::Fetching::job_read, crate::proofs::Fetching::job_unread))]
+pub fn job_of<S: Store>(alloc: Global, store: &mut S, name: &str) -> Result<Job, Cause>
+    ensures gives { IfSome (S.told store.old) (λ held. Gives (job_in (held.file name.now)) result) }
+    ensures early { IfErr result IsEarly }
+    ensures fault { HasCause (S.faults store.old) (S.faults store.new) (IsErrOf result Cause.StoreFault) }
+    ensures fetches { FetchesOnce (S.told store.old) (S.told store.new) }
+{
+    let bytes = bytes_of(alloc, store, name, JOB_LIMIT, Cause::JobLong)?;
+    Ok(read_job(alloc, bytes.as_slice())?)
+}
+
+/// The bytes of a file, or the cause against them: `longer` where there are more than `limit`.
+fn bytes_of<S: Store>(
+    alloc: Global,
+    store: &mut S,
+    name: &str,
+    limit: u32,
+    longer: Cause,
+) -> Result<Items<u8>, Cause>
+    requires early { IsEarly longer }
+    requires refusal { longer ≢ Cause.StoreFault }
+    ensures gives { IfSome (S.told store.old) (λ held. Gives (bytes_in limit longer (held.file name.now)) result) }
+    ensures early { IfErr result IsEarly }
+    ensures fault { HasCause (S.faults store.old) (S.faults store.new) (IsErrOf result Cause.StoreFault) }
+    ensures fetches { FetchesOnce (S.told store.old) (S.told store.new) }
+{
+    match store.fetch(alloc, name, limit)? {
+        Fetched::Missing => Err(Cause::FileMissing),
+        Fetched::Whole(bytes) => Ok(bytes),
+        Fetched::Longer(_) => Err(longer),
+    }
+}
+
+/// The image that bytes are: a file that begins as ELF files do is read as ELF, every other as
+/// words.
+fn read_image(alloc: Global, bytes: &[u8]) -> Result<Image, Cause>
+    ensures gives { Gives (refused (λ f. Cause.ImageRefused f) (image_reading bytes.now)) result }
+    ensures early { IfErr result IsEarly }
+    ensures refusal { IfErr result (λ c. c ≢ Cause.StoreFault) }
+{
+    if bytes.starts_with(&[0x7f, 0x45, 0x4c, 0x46]) {
+        Ok(elf(alloc, bytes)?)
+    } else {
+        Ok(flat(alloc, bytes)?)
+    }
+}

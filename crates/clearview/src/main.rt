@@ -1,0 +1,52 @@
+//! The program: reads the words after its name as a command, does it over the files of the system,
+//! and writes the text to standard output, or why there is none to standard error
+//! (docs/FORMATS.md).
+#![tactic(auto)]
+
+mod cause;
+mod files;
+mod plain;
+mod texts;
+mod tool;
+mod words;
+
+use cause::Cause;
+use cv_edge::{FileStore, StdSink};
+use std::env;
+use std::io;
+use std::io::ErrorKind;
+use std::process::ExitCode;
+use tool::tool;
+
+fn main(rt: HostRuntime) -> ExitCode {
+    let cause = match words_of(&rt) {
+        Ok(words) => {
+            let mut store = FileStore::over(&rt);
+            let mut sink = StdSink::over(rt.stdout());
+            tool(rt.alloc(), words.as_slice(), &mut store, &mut sink).cause
+        }
+        Err(cause) => cause,
+    };
+    if cause != Cause::Done {
+        // Where standard error fails too, the status alone tells the cause.
+        let _ = eprintln!(rt; "{cause}");
+    }
+    ExitCode::from(cause.status())
+}
+
+/// The words after the program's name. A word that is not UTF-8 is in no command.
+fn words_of(rt: &HostRuntime) -> Result<Vec<String>, Cause> {
+    let mut all = match env::args(rt) {
+        Ok(all) => all,
+        Err(error) if error.kind() == ErrorKind::OutOfMemory => return Err(Cause::NoMemory),
+        Err(_) => return Err(Cause::Usage),
+    };
+    let _name = all.next();
+    let mut words = Vec::new(rt.alloc());
+    for word in all {
+        if words.push(word).is_err() {
+            return Err(Cause::NoMemory);
+        }
+    }
+    Ok(words)
+}

@@ -1,0 +1,135 @@
+ghost use Rattle.std.specs.Prelude.{◌≡◌, ◌≢◌, ◌⊎◌, ◌↔◌, ◌≤◌, Ok, Some, None, length, map, string_bytes, IfErr, IfSome, IsErrOf};
+ghost use Rattle.cv_edge.specs.Edge.{FetchesOnce, FetchesUpTo, HasCause, Rose};
+ghost use Rattle.clearview.specs.Causes.{status_of, Completes, Ends, Writes, Silent};
+ghost use Rattle.clearview.specs.Gives.{GivesText, IsEarly, check_by};
+ghost use Rattle.clearview.specs.Verdict.{verdict_of, verdict_by};
+ghost use Rattle.clearview.specs.Views.{command_view};
+ghost use Rattle.clearview.specs.Words.{command_of, files_named, IsShort, Plain, Check};
+
+use crate::cause::{Cause, Finish};
+use crate::files::{image_of, job_of};
+use crate::plain::plain_text;
+use crate::texts::check_text;
+use crate::words::{Command, read};
+use cv_job::Job;
+use cv_edge::{Failed, Sink, Store, write_all};
+use std::alloc::Global;
+
+/// Does the command that words are: fetches the files that it names, and writes its text whole
+/// (docs/FORMATS.md, "Causes and statuses").
+pub fn tool<S: Store, K: Sink>(
+    alloc: Global,
+    words: &[String],
+    store: &mut S,
+    sink: &mut K,
+) -> Finish
+    ensures status { result.status ≡ status_of result.cause }
+    ensures usage { (result.cause ≡ Cause.Usage) ↔ (command_of (map string_bytes words.now) ≡ None) }
+    ensures cause { IfSome (S.told store.old) (λ held. Ends (verdict_of (map string_bytes words.now) held.file) result.cause) }
+    ensures text { IfSome (S.told store.old) (λ held. Writes (verdict_of (map string_bytes words.now) held.file) result.cause (K.written sink.old) (K.written sink.new)) }
+    ensures complete { IfSome (S.told store.old) (λ held. Completes (verdict_of (map string_bytes words.now) held.file) (Rose (S.faults store.old) (S.faults store.new)) (Rose (K.faults sink.old) (K.faults sink.new)) result.cause) }
+    ensures silent { Silent result.cause (K.written sink.old) (K.written sink.new) }
+    ensures store_fault { HasCause (S.faults store.old) (S.faults store.new) (result.cause ≡ Cause.StoreFault) }
+    ensures sink_fault { HasCause (K.faults sink.old) (K.faults sink.new) (result.cause ≡ Cause.SinkFault) }
+    ensures fetches { FetchesUpTo (files_named (command_of (map string_bytes words.now))) (S.told store.old) (S.told store.new) }
+{
+    let cause = match text_of(alloc, words, store) {
+        Ok(text) => written(sink, text.as_str()),
+        Err(cause) => cause,
+    };
+    Finish {
+        status: cause.status(),
+        cause,
+    }
+}
+
+/// Writes a text whole: Done, or SinkFault where the sink failed.
+fn written<K: Sink>(sink: &mut K, text: &str) -> Cause
+    ensures ends { (result ≡ Cause.Done) ⊎ (result ≡ Cause.SinkFault) }
+    ensures writes { Writes (Ok text.now) result (K.written sink.old) (K.written sink.new) }
+    ensures fault { HasCause (K.faults sink.old) (K.faults sink.new) (result ≡ Cause.SinkFault) }
+{
+    match write_all(sink, text.as_bytes()) {
+        Ok(()) => Cause::Done,
+        Err(Failed) => Cause::SinkFault,
+    }
+}
+
+/// The text of the command that words are, or the cause against it.
+#[tactic(auto, using(crate::proofs::Commands::fetches_none))]
+fn text_of<S: Store>(alloc: Global, words: &[String], store: &mut S) -> Result<String, Cause>
+    ensures gives { IfSome (S.told store.old) (λ held. GivesText (verdict_of (map string_bytes words.now) held.file) result) }
+    ensures usage { IsErrOf result Cause.Usage ↔ (command_of (map string_bytes words.now) ≡ None) }
+    ensures done { IfErr result (λ c. (c ≢ Cause.Done) × (c ≢ Cause.SinkFault)) }
+    ensures fault { HasCause (S.faults store.old) (S.faults store.new) (IsErrOf result Cause.StoreFault) }
+    ensures fetches { FetchesUpTo (files_named (command_of (map string_bytes words.now))) (S.told store.old) (S.told store.new) }
+{
+    match read(alloc, words) {
+        Ok(Some(command)) => command_text(alloc, &command, store),
+        Ok(None) => Err(Cause::Usage),
+        Err(error) => Err(error.into()),
+    }
+}
+
+fn command_text<S: Store>(
+    alloc: Global,
+    command: &Command<'_>,
+    store: &mut S,
+) -> Result<String, Cause>
+    requires { IsShort (command_view command.now) }
+    ensures gives { IfSome (S.told store.old) (λ held. GivesText (verdict_by (Some (command_view command.now)) held.file) result) }
+    ensures early { IfErr result IsEarly }
+    ensures fault { HasCause (S.faults store.old) (S.faults store.new) (IsErrOf result Cause.StoreFault) }
+    ensures fetches { FetchesUpTo (files_named (Some (command_view command.now))) (S.told store.old) (S.told store.new) }
+{
+    match command {
+        Command::Plain {
+            image,
+            budget,
+            input,
+        } => plain(alloc, store, image, *budget, input.as_slice()),
+        Command::Check { job } => check(alloc, store, job),
+    }
+}
+
+#[tactic(auto, using(crate::proofs::Commands::plain_ran, crate::proofs::Commands::plain_against))]
+fn plain<S: Store>(
+    alloc: Global,
+    store: &mut S,
+    image: &str,
+    budget: u32,
+    input: &[u8],
+) -> Result<String, Cause>
+    requires { length input.now ≤ 65536 }
+    ensures gives { IfSome (S.told store.old) (λ held. GivesText (verdict_by (Some (Plain image.now budget input.now)) held.file) result) }
+    ensures early { IfErr result IsEarly }
+    ensures fault { HasCause (S.faults store.old) (S.faults store.new) (IsErrOf result Cause.StoreFault) }
+    ensures fetches { FetchesOnce (S.told store.old) (S.told store.new) }
+{
+    let image = image_of(alloc, store, image)?;
+    Ok(plain_text(alloc, &image, input, budget)?)
+}
+
+#[tactic(auto, using(crate::proofs::Commands::check_went_on, crate::proofs::Commands::check_stopped, crate::proofs::Commands::fetches_more, crate::proofs::Commands::fetches_twice))]
+fn check<S: Store>(alloc: Global, store: &mut S, job: &str) -> Result<String, Cause>
+    ensures gives { IfSome (S.told store.old) (λ held. GivesText (verdict_by (Some (Check job.now)) held.file) result) }
+    ensures early { IfErr result IsEarly }
+    ensures fault { HasCause (S.faults store.old) (S.faults store.new) (IsErrOf result Cause.StoreFault) }
+    ensures fetches { FetchesUpTo 2 (S.told store.old) (S.told store.new) }
+{
+    let job = job_of(alloc, store, job)?;
+    check_job(alloc, store, job)
+}
+
+/// What `check` writes of a job, whose image is fetched by its name.
+#[tactic(auto, using(crate::proofs::Commands::check_ran, crate::proofs::Commands::check_against))]
+fn check_job<S: Store>(alloc: Global, store: &mut S, job: Job) -> Result<String, Cause>
+    ensures gives { IfSome (S.told store.old) (λ held. GivesText (check_by job held.file) result) }
+    ensures early { IfErr result IsEarly }
+    ensures fault { HasCause (S.faults store.old) (S.faults store.new) (IsErrOf result Cause.StoreFault) }
+    ensures fetches { FetchesOnce (S.told store.old) (S.told store.new) }
+{
+    let image = image_of(alloc, store, job.image.as_str())?;
+    let plan = job.into_plan(image);
+    Ok(check_text(alloc, &plan)?)
+}

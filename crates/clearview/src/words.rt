@@ -1,0 +1,156 @@
+ghost use Rattle.std.specs.Prelude.{◌≡◌, ◌↔◌, ◌≤◌, ℕ, List, Ok, Some, None, is_some, length, map, string_bytes, IfOk, IfSome, IsErr, IsSome, IsTrue, if◌then◌else◌};
+ghost use Rattle.std.specs.Char.{is_ascii_hexdigit};
+ghost use Rattle.std.specs.List.{list_all};
+ghost use Rattle.std.specs.Option.{option_map};
+ghost use Rattle.clearview.specs.Words.{command_of, IsShort, plain_of, is_digit, is_name, number_from, budget_of, input_of};
+ghost use Rattle.clearview.specs.Views.{command_view};
+
+use cv_base::{Items, NoMemory};
+use hex::FromHexError;
+use std::alloc::Global;
+
+/// The highest budget, in turns.
+const MAX_BUDGET: u32 = 10_000_000;
+
+/// The most hexadecimal digits of an input: two for each of 65,536 bytes.
+const MAX_INPUT_DIGITS: usize = 131_072;
+
+/// What a list of words asks for (docs/FORMATS.md, "Words").
+#[derive(Debug, Drop)]
+pub enum Command<'a> {
+    /// To run an image for at most `budget` turns, 1 to 10,000,000, with an input of at most
+    /// 65,536 bytes.
+    Plain {
+        image: &'a str,
+        budget: u32,
+        input: Items<u8>,
+    },
+    /// To say what a job and its image hold.
+    Check { job: &'a str },
+}
+
+/// The command that words are; None where they are none (docs/FORMATS.md, "Words"). Memory is
+/// taken only for the input of a command.
+pub fn read<'a>(alloc: Global, words: &'a [String]) -> Result<Option<Command<'a>>, NoMemory>
+    ensures value { IfOk result (λ o. option_map command_view o ≡ command_of (map string_bytes words.now)) }
+    ensures short { IfOk result (λ o. IfSome o (λ c. IsShort (command_view c))) }
+    ensures memory { IsErr result → IsSome (command_of (map string_bytes words.now)) }
+{
+    match words {
+        [name, job] => {
+            if name.as_str() == "check" && is_name(job.as_str()) {
+                return Ok(Some(Command::Check { job: job.as_str() }));
+            }
+            Ok(None)
+        }
+        [name, image, budget, input] => {
+            if name.as_str() == "plain" {
+                return read_plain(alloc, image.as_str(), budget.as_str(), input.as_str());
+            }
+            Ok(None)
+        }
+        _ => Ok(None),
+    }
+}
+
+fn read_plain<'a>(
+    alloc: Global,
+    image: &'a str,
+    budget: &str,
+    input: &str,
+) -> Result<Option<Command<'a>>, NoMemory>
+    ensures value { IfOk result (λ o. option_map command_view o ≡ plain_of image.now budget.now input.now) }
+    ensures short { IfOk result (λ o. IfSome o (λ c. IsShort (command_view c))) }
+    ensures memory { IsErr result → IsSome (plain_of image.now budget.now input.now) }
+{
+    if !is_name(image) {
+        return Ok(None);
+    }
+    let Some(budget) = budget_in(budget) else {
+        return Ok(None);
+    };
+    if !is_input(input) {
+        return Ok(None);
+    }
+    let input = input_in(alloc, input)?;
+    Ok(Some(Command::Plain {
+        image,
+        budget,
+        input,
+    }))
+}
+
+fn is_name(word: &str) -> bool
+    ensures { result ≡ is_name word.now }
+{
+    match word.as_bytes() {
+        [] => false,
+        [first, ..] => *first != b'-',
+    }
+}
+
+fn budget_in(word: &str) -> Option<u32>
+    ensures { result ≡ budget_of word.now }
+{
+    let digits = word.as_bytes();
+    if digits.is_empty() || digits.len() > 8 {
+        return None;
+    }
+    let value = number_in(digits)?;
+    if value == 0 || value > MAX_BUDGET {
+        return None;
+    }
+    Some(value)
+}
+
+/// The number that at most 8 decimal digits write; None where one is no digit.
+fn number_in(digits: &[u8]) -> Option<u32>
+    requires { length digits.now ≤ 8 }
+    ensures { result ≡ (if list_all is_digit digits.now then Some (number_from 0 digits.now) else None) }
+{
+    let mut value = 0u32;
+    for digit in digits {
+        if !digit.is_ascii_digit() {
+            return None;
+        }
+        value = 10 * value + u32::from(*digit - b'0');
+    }
+    Some(value)
+}
+
+/// Whether a word is an input; `input_in` has its bytes.
+#[tactic(auto, using(crate::proofs::Inputs::input_test))]
+fn is_input(word: &str) -> bool
+    ensures { result ≡ is_some (input_of word.now) }
+{
+    if word == "none" {
+        return true;
+    }
+    let digits = word.as_bytes();
+    if digits.len() < 2 || digits.len() > MAX_INPUT_DIGITS || digits.len() % 2 != 0 {
+        return false;
+    }
+    are_hex_digits(digits)
+}
+
+fn are_hex_digits(digits: &[u8]) -> bool
+    ensures { result ≡ list_all is_ascii_hexdigit digits.now }
+{
+    digits.iter().all(|digit| digit.is_ascii_hexdigit())
+}
+
+#[tactic(auto, using(crate::proofs::Inputs::decoded_short))]
+fn input_in(alloc: Global, word: &str) -> Result<Items<u8>, NoMemory>
+    requires { IsSome (input_of word.now) }
+    ensures value { IfOk result (λ bytes. input_of word.now ≡ Some bytes) }
+    ensures short { IfOk result (λ bytes. length bytes ≤ 65536) }
+{
+    if word == "none" {
+        return Ok(Items::make(alloc));
+    }
+    match hex::decode(alloc, word) {
+        Ok(bytes) => Ok(Items::from_vec(bytes)),
+        // The digits were tested.
+        Err(_) => Err(NoMemory),
+    }
+}
