@@ -9,7 +9,7 @@ use Rattle.cv_job.specs.JobLine.{job_line}
 abbrev pub text_line : Picture → List ℕ
 text_line image =
     codes "text " ++ address_text image.text_base ++ codes " " ++ decimal (length image.words)
-      ++ codes " entry " ++ address_text image.entry
+    ++ codes " entry " ++ address_text image.entry
 
 abbrev pub check_text : PlanOf → List ℕ
 check_text plan = job_line plan ++ codes "\n" ++ text_line plan.image ++ codes "\n"

@@ -52,7 +52,7 @@ verdict_by (Some (Plain image budget input)) file =
     and_then (image_in (file image)) (λ (picture : Picture). Ok (plain_text picture input budget))
 verdict_by (Some (Check job)) file =
     and_then (job_in (file job)) (λ (order : JobOf).
-      and_then (image_in (file order.image)) (λ (picture : Picture). Ok (check_text (plan_of order picture))))
+    and_then (image_in (file order.image)) (λ (picture : Picture). Ok (check_text (plan_of order picture))))
 
 abbrev pub verdict_of : List (List ℕ) → (List ℕ → Option (List ℕ)) → Verdict
 verdict_of words file = verdict_by (command_of words) file

@@ -7,8 +7,8 @@ use Rattle.hex.specs.Hex.{decode_of}
 use Rattle.cv_job.specs.Fields.{within}
 
 pub data Command : Type 0 where
-  Plain : List ℕ → ℕ → List ℕ → Command      -- image's name, budget, input
-  Check : List ℕ → Command                   -- job's name
+  Plain : List ℕ → ℕ → List ℕ → Command  -- image's name, budget, input
+  Check : List ℕ → Command  -- job's name
 
 -- a file's name: not empty, and does not begin with `-`
 abbrev pub is_name : List ℕ → Bool
