@@ -6,16 +6,17 @@
 mod cause;
 mod files;
 mod plain;
+#[cfg(test)]
+mod tests;
 mod texts;
 mod tool;
 mod words;
 
 use cause::Cause;
 use cv_edge::{FileStore, StdSink};
-use std::env;
-use std::io;
 use std::io::ErrorKind;
 use std::process::ExitCode;
+use std::{env, io};
 use tool::tool;
 
 fn main(rt: HostRuntime) -> ExitCode {

@@ -11,8 +11,8 @@ use crate::files::{image_of, job_of};
 use crate::plain::plain_text;
 use crate::texts::check_text;
 use crate::words::{Command, read};
-use cv_job::Job;
 use cv_edge::{Failed, Sink, Store, write_all};
+use cv_job::Job;
 use std::alloc::Global;
 
 /// Does the command that words are: fetches the files that it names, and writes its text whole

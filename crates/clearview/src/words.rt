@@ -26,7 +26,9 @@ pub enum Command<'a> {
         input: Items<u8>,
     },
     /// To say what a job and its image hold.
-    Check { job: &'a str },
+    Check {
+        job: &'a str,
+    },
 }
 
 /// The command that words are; None where they are none (docs/FORMATS.md, "Words"). Memory is

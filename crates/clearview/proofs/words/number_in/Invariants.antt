@@ -7,5 +7,5 @@ abbrev pub invariant-loop-digit : goal.invariant-loop-digit
 invariant-loop-digit l = record {
   small : l.value < 10 ^ l.digit-index;
   number : number_from l.value (drop l.digit-index l.digits) ≡ number_from 0 l.digits;
-  rest : list_all is_digit (drop l.digit-index l.digits) ≡ list_all is_digit l.digits
+  rest : list_all is_digit (drop l.digit-index l.digits) ≡ list_all is_digit l.digits;
 }
