@@ -18,7 +18,7 @@ is_check_of c (Enforce case index invariant action) = false
 abbrev pub is_checked_failure : ℕ → Case → Seen → Bool
 is_checked_failure c case s = is_failure case.id (live_failure s.entry) && list_any (is_check_of c) s.last
 
--- how many checked failures a case has, at most as many as the plan's checks
+-- the checked failures of a case, the newest first
 abbrev pub checked_failures : ℕ → Case → List Seen → List Seen
 checked_failures c case past = filter (is_checked_failure c case) past
 
