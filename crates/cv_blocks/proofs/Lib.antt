@@ -1,1 +1,4 @@
+pub mod Bounds
 pub mod FromImage
+pub mod Starts
+pub mod Windows

@@ -1,5 +1,5 @@
 -- The nearest numbers of a list below and above a limit.
-use Rattle.std.specs.Prelude.{◌≡◌, ℕ, Bool, true, ◌||◌, ◌==◌, ◌<◌, ◌≤◌, List}
+use Rattle.std.specs.Prelude.{◌≡◌, ℕ, Bool, true, ◌&&◌, ◌||◌, ◌==◌, ◌<◌, ◌≤◌, nat_lt, List}
 use Rattle.std.specs.List.{list_any}
 
 -- whether a number is in a list
@@ -12,8 +12,8 @@ pub record IsGreatestUpTo (xs : List ℕ) (limit n : ℕ) : Type 0 where
   pub below : n ≤ limit
   pub greatest : (x : ℕ) → holds_number x xs ≡ true → x ≤ limit → x ≤ n
 
--- the least number of the list that is above the limit and below `end`, or `end` where none is
+-- the least number of the list that is above the limit, or `end` where none is below `end`
 pub record IsLeastAbove (xs : List ℕ) (limit end n : ℕ) : Type 0 where
-  pub among : (holds_number n xs || (n == end)) ≡ true
-  pub above : (n == end) ≡ true → n ≤ end
+  pub among : ((nat_lt limit n && holds_number n xs) || (n == end)) ≡ true
+  pub below : n ≤ end
   pub least : (x : ℕ) → holds_number x xs ≡ true → limit < x → n ≤ x
