@@ -129,21 +129,21 @@ fn decoded(alloc: Global, words: &[u32]) -> Result<Vec<Option<Inst>>, NoMemory>
 }
 
 /// The registers that the instruction at a point reads; a word that is none reads nothing.
-pub(crate) fn read_by(inst: Option<Inst>) -> RegSet
-    ensures { (r : ℕ) → has result r ≡ reads inst r }
+pub(crate) fn read_by(inst: &Option<Inst>) -> RegSet
+    ensures { (r : ℕ) → has result r ≡ reads inst.now r }
 {
     match inst {
-        Some(inst) => cv_isa::reads(&inst),
+        Some(inst) => cv_isa::reads(inst),
         None => RegSet::empty(),
     }
 }
 
 /// Whether the instruction at a point is a transfer; a word that is none is not.
-pub(crate) fn is_transfer(inst: Option<Inst>) -> bool
-    ensures { result ≡ transfers inst }
+pub(crate) fn is_transfer(inst: &Option<Inst>) -> bool
+    ensures { result ≡ transfers inst.now }
 {
     match inst {
-        Some(inst) => cv_isa::is_transfer(&inst),
+        Some(inst) => cv_isa::is_transfer(inst),
         None => false,
     }
 }

@@ -95,7 +95,7 @@ impl TextMap {
         ensures each { (r : ℕ) → has result r ≡ reads (inst_at self.now point) r }
         ensures members { members_of result ≡ reads_at self.now point }
     {
-        read_by(self.listing.inst(point))
+        read_by(&self.listing.inst(point))
     }
 
     /// The registers that are read in the window of a point: at the point and at up to seven points
@@ -104,6 +104,14 @@ impl TextMap {
         requires { IsTrue (is_point self.now point) }
         ensures each { (r : ℕ) → has result r ≡ is_in_window self.now point r }
         ensures members { members_of result ≡ window_registers self.now point }
+    {
+        self.set_of_window(point)
+    }
+
+    /// The same set as `window`.
+    fn set_of_window(&self, point: u32) -> RegSet
+        requires { IsTrue (is_point self.now point) }
+        ensures { (r : ℕ) → has result r ≡ is_in_window self.now point r }
     {
         self.windows[self.listing.place(point)]
     }

@@ -31,10 +31,8 @@ fn window_of(listing: &Listing, point: u32) -> RegSet
     requires { IsTrue (is_point listing.now point) }
     ensures { (r : ℕ) → has result r ≡ is_in_window listing.now point r }
 {
-    union(
-        read_by(listing.inst(point)),
-        read_before(listing, point, MOST_BEFORE),
-    )
+    let here = read_by(&listing.inst(point));
+    union(here, read_before(listing, point, MOST_BEFORE))
 }
 
 /// The registers that are read at the points before a point: at up to `count` of them, stopping
@@ -47,10 +45,11 @@ fn read_before(listing: &Listing, point: u32, count: u32) -> RegSet
         return RegSet::empty();
     }
     let inst = listing.inst(point - 4);
-    if is_transfer(inst) {
+    if is_transfer(&inst) {
         return RegSet::empty();
     }
-    union(read_by(inst), read_before(listing, point - 4, count - 1))
+    let here = read_by(&inst);
+    union(here, read_before(listing, point - 4, count - 1))
 }
 
 /// The registers of either set.

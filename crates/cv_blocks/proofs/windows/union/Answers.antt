@@ -1,4 +1,4 @@
-use Rattle.cv_blocks.proofs.Windows.{has_union}
+use Rattle.cv_blocks.proofs.WindowSets.{has_union}
 use Rattle.cv_blocks.proofs.windows.union.Goals as goal
 
 pub returns : goal.returns
