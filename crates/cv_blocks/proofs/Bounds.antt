@@ -137,8 +137,8 @@ none_found xs p parts = record {
   among = holds_tail (holds_number 0 xs) true refl;
   below = omega arith;
   greatest = λ x held low.
-    let at = place_of x xs held in
-    omega (arith, is_above _ _ (parts.1 at.0 0 (omega arith) at.1), at.2);
+      let at = place_of x xs held in
+      omega (arith, is_above _ _ (parts.1 at.0 0 (omega arith) at.1), at.2);
 }
 
 pub last_found : (xs : List ℕ) (p n : ℕ) → IsNonDecreasing xs → 1 ≤ n → n ≤ length xs → IsPartitionPoint (λ y. leb y p ≡ true) (λ y. leb y p ≡ false) xs n → IsGreatestUpTo xs p (get_or xs (n - 1) 0)
@@ -146,11 +146,11 @@ last_found xs p n up some bound parts = record {
   among = or_left (holds_number (get_or xs (n - 1) 0) xs) (eqb (get_or xs (n - 1) 0) 0) (stands xs (n - 1) (omega arith));
   below = is_below _ _ (parts.0 (n - 1) 0 (omega arith) (omega arith));
   greatest = λ x held low.
-    let at = place_of x xs held in
-    elim (split_at xs p n at.0 parts at.1) [
-      | inl before ↦ omega (arith, up at.0 (n - 1) 0 (omega (arith, before.0)) (omega arith), at.2)
-      | inr after ↦ absurd (omega (arith, after.1, at.2))
-    ];
+      let at = place_of x xs held in
+      elim (split_at xs p n at.0 parts at.1) [
+        | inl before ↦ omega (arith, up at.0 (n - 1) 0 (omega (arith, before.0)) (omega arith), at.2)
+        | inr after ↦ absurd (omega (arith, after.1, at.2))
+      ];
 }
 
 pub none_above : (xs : List ℕ) (p end n : ℕ) → length xs ≤ n → IsPartitionPoint (λ y. leb y p ≡ true) (λ y. leb y p ≡ false) xs n → IsLeastAbove xs p end end
@@ -158,8 +158,8 @@ none_above xs p end n bound parts = record {
   among = holds_tail (ltb p end && holds_number end xs) (eqb end end) (eqb_same end);
   below = omega arith;
   least = λ x held above.
-    let at = place_of x xs held in
-    absurd (omega (arith, is_below _ _ (parts.0 at.0 0 (omega arith) (omega (arith, at.1))), at.2));
+      let at = place_of x xs held in
+      absurd (omega (arith, is_below _ _ (parts.0 at.0 0 (omega arith) (omega (arith, at.1))), at.2));
 }
 
 pub first_found : (xs : List ℕ) (p end n : ℕ) → IsNonDecreasing xs → n < length xs → IsPartitionPoint (λ y. leb y p ≡ true) (λ y. leb y p ≡ false) xs n → IsLeastAbove xs p end (min end (get_or xs n 0))
@@ -167,9 +167,9 @@ first_found xs p end n up within parts = record {
   among = least_among p end (get_or xs n 0) xs (stands xs n within) (is_above _ _ (parts.1 n 0 (omega arith) within));
   below = omega arith;
   least = λ x held above.
-    let at = place_of x xs held in
-    elim (split_at xs p n at.0 parts at.1) [
-      | inl before ↦ absurd (omega (arith, before.1, at.2))
-      | inr after ↦ omega (arith, up n at.0 0 after.0 at.1, at.2)
-    ];
+      let at = place_of x xs held in
+      elim (split_at xs p n at.0 parts at.1) [
+        | inl before ↦ absurd (omega (arith, before.1, at.2))
+        | inr after ↦ omega (arith, up n at.0 0 after.0 at.1, at.2)
+      ];
 }

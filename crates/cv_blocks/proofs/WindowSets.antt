@@ -80,9 +80,9 @@ pub windows_more : (image : Picture) (k p : ℕ) (sets : List RegSet) (set : Reg
 windows_more image k p sets set is are here = record {
   as_many = omega (arith, length_push sets set, are.as_many);
   each = λ j d below r.
-    let f = λ (n : ℕ). is_in_window image (image.text_base + 4 * n) r in
-    elim (cases_lt j k) [
-      | inl before ↦ earlier_set f j k sets set d r are.as_many before (are.each j d before r)
-      | inr last ↦ last_set f j k sets set d r are.as_many (omega arith) (here r ∙ ap (λ (n : ℕ). is_in_window image n r) is)
-    ];
+      let f = λ (n : ℕ). is_in_window image (image.text_base + 4 * n) r in
+      elim (cases_lt j k) [
+        | inl before ↦ earlier_set f j k sets set d r are.as_many before (are.each j d before r)
+        | inr last ↦ last_set f j k sets set d r are.as_many (omega arith) (here r ∙ ap (λ (n : ℕ). is_in_window image n r) is)
+      ];
 }

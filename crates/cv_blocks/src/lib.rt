@@ -10,3 +10,6 @@ mod windows;
 
 pub use entries::EntryRule;
 pub use text_map::{TextMap, segments_are_not_asked};
+
+#[cfg(test)]
+mod tests;

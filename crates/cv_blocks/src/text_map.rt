@@ -136,5 +136,4 @@ impl TextMap {
 /// What an image's text says does not depend on the segments.
 pub fn segments_are_not_asked(image: &Image)
     ensures { SayTheSame (text_only image.now) image.now }
-{
-}
+{}
