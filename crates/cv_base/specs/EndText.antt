@@ -1,7 +1,6 @@
 -- How a run ended, as text (docs/FORMATS.md, "Text forms").
-use Rattle.std.specs.Prelude.{ℕ, List, [], ◌∷◌, ◌++◌, codes}
+use Rattle.std.specs.Prelude.{ℕ, List, ◌++◌, codes}
 use Rattle.std.specs.Fmt.{decimal}
-use Rattle.cv_base.specs.declared.ends.CrashCause.{CrashCause}
 use Rattle.cv_base.specs.declared.ends.CrashCause.TheVariants.{IllegalInstruction, Break, Deep, Misaligned, Unreadable, Code, Unwritable}
 use Rattle.cv_base.specs.declared.ends.FailureKind.{FailureKind}
 use Rattle.cv_base.specs.declared.ends.FailureKind.TheVariants.{IllegalTransfer, HeapGuard, ShadowStack, Crash}

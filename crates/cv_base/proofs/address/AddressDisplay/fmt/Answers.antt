@@ -1,6 +1,5 @@
-use Rattle.std.proofs.Common.{◌≡◌, ℕ, List, [], ◌∷◌, ◌++◌, ◌-◌, ◌^◌, length, false, true, refl}
+use Rattle.std.proofs.Common.{◌≡◌, ℕ, [], ◌-◌, ◌^◌, false, true}
 use Rattle.std.specs.Fmt.{padded_integral, format_spec, digits, char_count}
-use Rattle.std.specs.Prelude.{replicate}
 use Rattle.std.proofs.Math.Nat.{sub-zero}
 use Rattle.std.proofs.lemmas.List.{append-nil}
 use Rattle.cv_base.specs.Text.{address_text}
