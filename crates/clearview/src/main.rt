@@ -7,6 +7,8 @@ mod cause;
 mod files;
 mod plain;
 #[cfg(test)]
+mod rows;
+#[cfg(test)]
 mod tests;
 mod texts;
 mod tool;

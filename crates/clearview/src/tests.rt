@@ -272,7 +272,7 @@ fn flat_file(alloc: Global, words: &[u32]) -> Result<Vec<u8>, NoMemory> {
 }
 
 /// The cause, the status, and the text that a call writes.
-fn answer(
+pub(crate) fn answer(
     alloc: Global,
     words: &[&str],
     store: &mut MemStore,
