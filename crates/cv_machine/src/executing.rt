@@ -11,7 +11,7 @@ ghost use Rattle.cv_runs.specs.State.{x};
 use crate::computing::compute;
 use crate::{Machine, Turn};
 use cv_base::{CrashCause, FailureKind};
-use cv_isa::{Format, Inst, Op, link_kind};
+use cv_isa::{Inst, Op, link_kind};
 
 impl Machine {
     /// Executes the instruction at the pc.
@@ -38,33 +38,35 @@ impl Machine {
             Op::Fence => self.go_on(false),
             Op::Ecall => self.serve(),
             Op::Ebreak => self.fail(FailureKind::Crash(CrashCause::Break), 0),
-            _ => self.operate(inst),
+            Op::Beq | Op::Bne | Op::Blt | Op::Bge | Op::Bltu | Op::Bgeu => self.branch(inst),
+            Op::Addi
+            | Op::Slti
+            | Op::Sltiu
+            | Op::Xori
+            | Op::Ori
+            | Op::Andi
+            | Op::Slli
+            | Op::Srli
+            | Op::Srai => self.operate(inst, inst.imm),
+            _ => {
+                let right = self.core.regs.get(inst.rs2);
+                self.operate(inst, right)
+            }
         }
     }
 
-    /// A computation, or a branch.
-    fn operate(&mut self, inst: &Inst) -> Turn
+    /// A computation of rs1 and a second operand.
+    fn operate(&mut self, inst: &Inst, right: u32) -> Turn
         requires { IsTrue (is_point self.old.image self.old.core.pc) }
-        ensures answer { result ≡ answer_of (operated self.old.image (state_of self.old) inst.now (computed inst.now.op (x (state_of self.old) inst.now.rs1) (operand (format_of inst.now.op) (state_of self.old) inst.now))) }
-        ensures state { state_of self.new ≡ left_by (operated self.old.image (state_of self.old) inst.now (computed inst.now.op (x (state_of self.old) inst.now.rs1) (operand (format_of inst.now.op) (state_of self.old) inst.now))) (state_of self.old) }
+        ensures answer { result ≡ answer_of (operated self.old.image (state_of self.old) inst.now (computed inst.now.op (x (state_of self.old) inst.now.rs1) right)) }
+        ensures state { state_of self.new ≡ left_by (operated self.old.image (state_of self.old) inst.now (computed inst.now.op (x (state_of self.old) inst.now.rs1) right)) (state_of self.old) }
         ensures image { self.new.image ≡ self.old.image }
         ensures point { IsTrue (is_point self.new.image self.new.core.pc) }
     {
         let left = self.core.regs.get(inst.rs1);
-        let right = self.operand(inst);
         match compute(inst.op, left, right) {
             Some(value) => self.advance(inst.rd, value),
             None => self.branch(inst),
-        }
-    }
-
-    /// The second operand of a computation: rs2, or the immediate.
-    fn operand(&self, inst: &Inst) -> u32
-        ensures { result ≡ operand (format_of inst.now.op) (state_of self.now) inst.now }
-    {
-        match inst.op.format() {
-            Format::Register => self.core.regs.get(inst.rs2),
-            _ => inst.imm,
         }
     }
 
