@@ -5,6 +5,7 @@ use cv_isa::Op;
 
 /// What a computation gives of its two operands; `None` for other operations (RISC-V Unprivileged
 /// ISA, 2.4 "Integer Computational Instructions").
+#[inline(always)]
 pub(crate) fn compute(op: Op, a: u32, b: u32) -> Option<u32>
     ensures { result ≡ computed op a b }
 {
@@ -25,6 +26,7 @@ pub(crate) fn compute(op: Op, a: u32, b: u32) -> Option<u32>
 
 /// Whether a branch is taken; other operations take none (RISC-V Unprivileged ISA, 2.5
 /// "Conditional Branches").
+#[inline(always)]
 pub(crate) fn takes(op: Op, a: u32, b: u32) -> bool
     ensures { result ≡ is_taken op a b }
 {
@@ -40,6 +42,7 @@ pub(crate) fn takes(op: Op, a: u32, b: u32) -> bool
 }
 
 /// Less, as two's complement numbers.
+#[inline]
 fn signed_lt(a: u32, b: u32) -> bool
     ensures { result ≡ signed_lt a b }
 {
@@ -47,6 +50,7 @@ fn signed_lt(a: u32, b: u32) -> bool
 }
 
 /// A shift by the low five bits of b that copies the sign bit.
+#[inline]
 fn shifted_right_signed(a: u32, b: u32) -> u32
     ensures { result ≡ shifted_right_signed a b }
 {

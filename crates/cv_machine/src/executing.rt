@@ -1,77 +1,83 @@
 ghost use Rattle.std.specs.Prelude.{◌≡◌, ◌<◌, IsTrue};
 ghost use Rattle.cv_base.specs.Picture.{is_point};
 ghost use Rattle.cv_isa.specs.Instruction.{format_of};
-ghost use Rattle.cv_machine.specs.Answers.{answer_of, left_by};
+ghost use Rattle.cv_machine.specs.Answers.{answer_of, left_by, told};
 ghost use Rattle.cv_machine.specs.Held.{state_of};
 ghost use Rattle.cv_runs.specs.Arithmetic.{computed};
 ghost use Rattle.cv_runs.specs.Effects.{gone_on, advanced};
 ghost use Rattle.cv_runs.specs.PlainTurn.{executed, operated, operand};
 ghost use Rattle.cv_runs.specs.State.{x};
 
+use crate::Machine;
 use crate::computing::compute;
-use crate::{Machine, Turn};
-use cv_base::{CrashCause, FailureKind};
-use cv_isa::{Format, Inst, Op, link_kind};
+use crate::turn::Went;
+use cv_base::{CrashCause, End, FailureKind};
+use cv_isa::{Inst, Op, link_kind};
 
 impl Machine {
     /// Executes the instruction at the pc.
-    pub(crate) fn execute(&mut self, inst: &Inst) -> Turn
+    #[inline(always)]
+    pub(crate) fn execute(&mut self, inst: &Inst, end: &mut End) -> Went
         requires { IsTrue (is_point self.old.image self.old.core.pc) }
-        ensures answer { result ≡ answer_of (executed self.old.image (state_of self.old) inst.now inst.now.op) }
+        ensures answer { told result end.new ≡ answer_of (executed self.old.image (state_of self.old) inst.now inst.now.op) }
         ensures state { state_of self.new ≡ left_by (executed self.old.image (state_of self.old) inst.now inst.now.op) (state_of self.old) }
         ensures image { self.new.image ≡ self.old.image }
         ensures point { IsTrue (is_point self.new.image self.new.core.pc) }
     {
         match inst.op {
-            Op::Lui => self.advance(inst.rd, inst.imm),
-            Op::Auipc => self.advance(inst.rd, self.core.pc.wrapping_add(inst.imm)),
+            Op::Lui => self.advance(inst.rd, inst.imm, end),
+            Op::Auipc => self.advance(inst.rd, self.core.pc.wrapping_add(inst.imm), end),
             Op::Jal => {
                 let target = self.core.pc.wrapping_add(inst.imm);
-                self.jump(link_kind(inst), inst.rd, target)
+                self.jump(link_kind(inst), inst.rd, target, end)
             }
             Op::Jalr => {
                 let target = self.indirect_target(inst);
-                self.jump(link_kind(inst), inst.rd, target)
+                self.jump(link_kind(inst), inst.rd, target, end)
             }
-            Op::Lb | Op::Lh | Op::Lw | Op::Lbu | Op::Lhu => self.load(inst),
-            Op::Sb | Op::Sh | Op::Sw => self.store(inst),
-            Op::Fence => self.go_on(false),
-            Op::Ecall => self.serve(),
-            Op::Ebreak => self.fail(FailureKind::Crash(CrashCause::Break), 0),
-            _ => self.operate(inst),
+            Op::Lb | Op::Lh | Op::Lw | Op::Lbu | Op::Lhu => self.load(inst, end),
+            Op::Sb | Op::Sh | Op::Sw => self.store(inst, end),
+            Op::Fence => self.go_on(false, end),
+            Op::Ecall => self.serve(end),
+            Op::Ebreak => self.fail(FailureKind::Crash(CrashCause::Break), 0, end),
+            Op::Beq | Op::Bne | Op::Blt | Op::Bge | Op::Bltu | Op::Bgeu => self.branch(inst, end),
+            Op::Addi
+            | Op::Slti
+            | Op::Sltiu
+            | Op::Xori
+            | Op::Ori
+            | Op::Andi
+            | Op::Slli
+            | Op::Srli
+            | Op::Srai => self.operate(inst, inst.imm, end),
+            _ => {
+                let right = self.core.regs.get(inst.rs2);
+                self.operate(inst, right, end)
+            }
         }
     }
 
-    /// A computation, or a branch.
-    fn operate(&mut self, inst: &Inst) -> Turn
+    /// A computation of rs1 and a second operand.
+    #[inline(always)]
+    fn operate(&mut self, inst: &Inst, right: u32, end: &mut End) -> Went
         requires { IsTrue (is_point self.old.image self.old.core.pc) }
-        ensures answer { result ≡ answer_of (operated self.old.image (state_of self.old) inst.now (computed inst.now.op (x (state_of self.old) inst.now.rs1) (operand (format_of inst.now.op) (state_of self.old) inst.now))) }
-        ensures state { state_of self.new ≡ left_by (operated self.old.image (state_of self.old) inst.now (computed inst.now.op (x (state_of self.old) inst.now.rs1) (operand (format_of inst.now.op) (state_of self.old) inst.now))) (state_of self.old) }
+        ensures answer { told result end.new ≡ answer_of (operated self.old.image (state_of self.old) inst.now (computed inst.now.op (x (state_of self.old) inst.now.rs1) right)) }
+        ensures state { state_of self.new ≡ left_by (operated self.old.image (state_of self.old) inst.now (computed inst.now.op (x (state_of self.old) inst.now.rs1) right)) (state_of self.old) }
         ensures image { self.new.image ≡ self.old.image }
         ensures point { IsTrue (is_point self.new.image self.new.core.pc) }
     {
         let left = self.core.regs.get(inst.rs1);
-        let right = self.operand(inst);
         match compute(inst.op, left, right) {
-            Some(value) => self.advance(inst.rd, value),
-            None => self.branch(inst),
-        }
-    }
-
-    /// The second operand of a computation: rs2, or the immediate.
-    fn operand(&self, inst: &Inst) -> u32
-        ensures { result ≡ operand (format_of inst.now.op) (state_of self.now) inst.now }
-    {
-        match inst.op.format() {
-            Format::Register => self.core.regs.get(inst.rs2),
-            _ => inst.imm,
+            Some(value) => self.advance(inst.rd, value, end),
+            None => self.branch(inst, end),
         }
     }
 
     /// On to the next word.
-    pub(crate) fn go_on(&mut self, transfer: bool) -> Turn
+    #[inline(always)]
+    pub(crate) fn go_on(&mut self, transfer: bool, end: &mut End) -> Went
         requires { IsTrue (is_point self.old.image self.old.core.pc) }
-        ensures answer { result ≡ answer_of (gone_on self.old.image (state_of self.old) transfer) }
+        ensures answer { told result end.new ≡ answer_of (gone_on self.old.image (state_of self.old) transfer) }
         ensures state { state_of self.new ≡ left_by (gone_on self.old.image (state_of self.old) transfer) (state_of self.old) }
         ensures image { self.new.image ≡ self.old.image }
         ensures point { IsTrue (is_point self.new.image self.new.core.pc) }
@@ -79,17 +85,18 @@ impl Machine {
         let next = self.core.pc.wrapping_add(4);
         if self.is_point(next) {
             self.core.pc = next;
-            Turn::Next { transfer }
+            Went::On { transfer }
         } else {
-            self.fail(FailureKind::IllegalTransfer, next)
+            self.fail(FailureKind::IllegalTransfer, next, end)
         }
     }
 
     /// Register rd is written, and on to the next word.
-    pub(crate) fn advance(&mut self, rd: u8, value: u32) -> Turn
+    #[inline(always)]
+    pub(crate) fn advance(&mut self, rd: u8, value: u32, end: &mut End) -> Went
         requires register { rd < 32 }
         requires point { IsTrue (is_point self.old.image self.old.core.pc) }
-        ensures answer { result ≡ answer_of (advanced self.old.image (state_of self.old) rd value) }
+        ensures answer { told result end.new ≡ answer_of (advanced self.old.image (state_of self.old) rd value) }
         ensures state { state_of self.new ≡ left_by (advanced self.old.image (state_of self.old) rd value) (state_of self.old) }
         ensures image { self.new.image ≡ self.old.image }
         ensures point { IsTrue (is_point self.new.image self.new.core.pc) }
@@ -98,9 +105,9 @@ impl Machine {
         if self.is_point(next) {
             self.core.regs.set(rd, value);
             self.core.pc = next;
-            Turn::Next { transfer: false }
+            Went::On { transfer: false }
         } else {
-            self.fail(FailureKind::IllegalTransfer, next)
+            self.fail(FailureKind::IllegalTransfer, next, end)
         }
     }
 }

@@ -5,10 +5,10 @@ ghost use Rattle.cv_isa.specs.DecodeTable.{meaning_of};
 ghost use Rattle.cv_mem.specs.Memory.{memory_of};
 ghost use Rattle.cv_runs.specs.PlainTurn.{turn_of};
 ghost use Rattle.cv_runs.specs.State.{start_core, start_state, failed};
-ghost use Rattle.cv_machine.specs.Answers.{answer_of, left_by};
+ghost use Rattle.cv_machine.specs.Answers.{answer_of, left_by, told};
 ghost use Rattle.cv_machine.specs.Held.{state_of};
 
-use crate::Turn;
+use crate::turn::{Turn, Went};
 use cv_base::{CrashCause, End, FailureId, FailureKind, Image, Items, NoMemory, Regs, STACK_END};
 use cv_heap::Blocks;
 use cv_isa::{Inst, decode};
@@ -121,7 +121,6 @@ impl Machine {
 
     /// One turn: the instruction at the pc, with the nine tests in their order (docs/MACHINE.md,
     /// "The nine tests"). It never answers an end by budget, and takes no memory.
-    #[tactic(auto, unfolding(cv_runs::specs::PlainTurn::turn_of))]
     pub fn turn(&mut self) -> Turn
         requires { IsTrue (is_point self.old.image self.old.core.pc) }
         ensures answer { result ≡ answer_of (turn_of self.old.image (state_of self.old)) }
@@ -129,11 +128,29 @@ impl Machine {
         ensures image { self.new.image ≡ self.old.image }
         ensures point { IsTrue (is_point self.new.image self.new.core.pc) }
     {
+        let mut end = End::Budget;
+        match self.step(&mut end) {
+            Went::On { transfer } => Turn::Next { transfer },
+            Went::Over => Turn::Ended(end),
+        }
+    }
+
+    /// One turn, which writes how it ended a run into `end`, and goes on without a word on it.
+    #[tactic(auto, unfolding(cv_runs::specs::PlainTurn::turn_of))]
+    #[inline(always)]
+    pub(crate) fn step(&mut self, end: &mut End) -> Went
+        requires { IsTrue (is_point self.old.image self.old.core.pc) }
+        ensures answer { told result end.new ≡ answer_of (turn_of self.old.image (state_of self.old)) }
+        ensures state { state_of self.new ≡ left_by (turn_of self.old.image (state_of self.old)) (state_of self.old) }
+        ensures image { self.new.image ≡ self.old.image }
+        ensures point { IsTrue (is_point self.new.image self.new.core.pc) }
+    {
         match self.instruction() {
-            Some(inst) => self.execute(&inst),
+            Some(inst) => self.execute(&inst, end),
             None => {
                 let word = self.word();
-                self.fail(FailureKind::Crash(CrashCause::IllegalInstruction), word)
+                let kind = FailureKind::Crash(CrashCause::IllegalInstruction);
+                self.fail(kind, word, end)
             }
         }
     }
@@ -160,6 +177,7 @@ impl Machine {
     }
 
     /// The instruction at the pc; `None` where the word is none.
+    #[inline(always)]
     fn instruction(&self) -> Option<Inst>
         requires { IsTrue (is_point self.now.image self.now.core.pc) }
         ensures { result ≡ meaning_of (word_at self.now.image self.now.core.pc) }
@@ -169,6 +187,7 @@ impl Machine {
     }
 
     /// The word at the pc.
+    #[cold]
     fn word(&self) -> u32
         requires { IsTrue (is_point self.now.image self.now.core.pc) }
         ensures { result ≡ word_at self.now.image self.now.core.pc }
@@ -178,6 +197,7 @@ impl Machine {
     }
 
     /// Whether an address is that of a word of the text.
+    #[inline(always)]
     pub(crate) fn is_point(&self, addr: u32) -> bool
         ensures { result ≡ is_point self.now.image addr }
     {
@@ -187,14 +207,16 @@ impl Machine {
     }
 
     /// The end of a run at this turn.
-    pub(crate) fn fail(&self, kind: FailureKind, detail: u32) -> Turn
-        ensures { result ≡ answer_of (failed (state_of self.now) kind detail) }
+    #[cold]
+    pub(crate) fn fail(&self, kind: FailureKind, detail: u32, end: &mut End) -> Went
+        ensures { told result end.new ≡ answer_of (failed (state_of self.now) kind detail) }
     {
         let id = FailureId {
             kind,
             pc: self.core.pc,
         };
-        Turn::Ended(End::Failure { id, detail })
+        *end = End::Failure { id, detail };
+        Went::Over
     }
 }
 

@@ -3,7 +3,8 @@ ghost use Rattle.cv_base.specs.Picture.{is_point};
 ghost use Rattle.cv_machine.specs.Held.{state_of};
 ghost use Rattle.cv_runs.specs.PlainRun.{steps_from, end_of, state_left};
 
-use crate::{Machine, Turn};
+use crate::Machine;
+use crate::turn::Went;
 use cv_base::End;
 
 /// Runs a machine for at most `budget` turns: how the run ended, and how many turns it took.
@@ -15,10 +16,11 @@ pub fn run(machine: &mut Machine, budget: u32) -> (End, u32)
     ensures image { machine.new.image ≡ machine.old.image }
     ensures point { IsTrue (is_point machine.new.image machine.new.core.pc) }
 {
+    let mut end = End::Budget;
     for done in 0..budget {
-        match machine.turn() {
-            Turn::Next { .. } => {}
-            Turn::Ended(end) => return (end, done + 1),
+        match machine.step(&mut end) {
+            Went::On { .. } => {}
+            Went::Over => return (end, done + 1),
         }
     }
     (End::Budget, budget)

@@ -8,3 +8,10 @@ pub enum Turn {
     /// The run has ended, and the turn changed nothing.
     Ended(End),
 }
+
+/// Whether the run goes on. How it ended stands elsewhere, so that this fits in a register.
+#[derive(Clone, Copy)]
+pub(crate) enum Went {
+    On { transfer: bool },
+    Over,
+}

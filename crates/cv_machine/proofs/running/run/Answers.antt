@@ -6,16 +6,16 @@ pub loop-done-preserved : goal.loop-done-preserved
 loop-done-preserved c =
     let same = c.loop-done.invariant.image in
     record {
-      image = c.in-Next.ensures.image ∙ same;
-      point = c.in-Next.ensures.point;
-      remains = more _ _ _ _ _ _ c.in-Next.transfer c.loop-done-test.true (rw same at c.in-Next.ensures.answer) (rw same at c.in-Next.ensures.state) c.loop-done.invariant.remains;
+      image = c.in-On.ensures.image ∙ same;
+      point = c.in-On.ensures.point;
+      remains = more _ _ _ _ _ _ c.in-On.transfer c.loop-done-test.true (rw same at c.in-On.ensures.answer) (rw same at c.in-On.ensures.state) c.loop-done.invariant.remains;
     }
 
-pub returns-in-Ended : goal.returns-in-Ended
-returns-in-Ended c =
+pub returns-in-Over : goal.returns-in-Over
+returns-in-Over c =
     let same = c.loop-done.invariant.image in
-    let whole = stopped _ _ _ _ _ _ c.in-Ended.end c.loop-done-test.true (rw same at c.in-Ended.ensures.answer) (rw same at c.in-Ended.ensures.state) c.loop-done.invariant.remains in
-    record { end = whole.ends; turns = whole.turns; state = whole.leaves; image = c.in-Ended.ensures.image ∙ same; point = c.in-Ended.ensures.point }
+    let whole = stopped _ _ _ _ _ _ _ c.loop-done-test.true (rw same at c.in-Over.ensures.answer) (rw same at c.in-Over.ensures.state) c.loop-done.invariant.remains in
+    record { end = whole.ends; turns = whole.turns; state = whole.leaves; image = c.in-Over.ensures.image ∙ same; point = c.in-Over.ensures.point }
 
 pub returns : goal.returns
 returns c =
