@@ -2,6 +2,9 @@
 //! of them (docs/REPAIR.md, "Learning").
 #![tactic(auto)]
 
+mod kinds;
+mod learning;
+mod numbers;
 mod summary;
 
 pub use summary::Summary;

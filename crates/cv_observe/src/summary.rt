@@ -1,9 +1,11 @@
 ghost use Rattle.std.specs.Prelude.{◌≡◌, [], ◌∷◌, ◌++◌, List, IfOk, OnOk, OnErr, IsTrue};
 ghost use Rattle.cv_base.specs.declared.entries.Observation.{Observation};
 ghost use Rattle.cv_base.specs.Picture.{is_point};
+ghost use Rattle.cv_runs.specs.Learned.{learned};
 ghost use Rattle.cv_observe.specs.StandsFor.{StandsFor};
 
-use cv_base::{NoMemory, Observation, Regs};
+use crate::learning::learned_of;
+use cv_base::{Invariant, Items, NoMemory, Observation, Regs};
 use cv_blocks::TextMap;
 use std::alloc::Global;
 use std::marker::Model;
@@ -64,6 +66,13 @@ impl Summary {
     {
         self.seen.extend_from_slice(other.seen.as_slice())?;
         Ok(())
+    }
+
+    /// The invariants that are learned of the observations, in order.
+    pub fn learned(&self, alloc: Global) -> Result<Items<Invariant>, NoMemory>
+        ensures { (seen : List Observation) → StandsFor self.now seen → IfOk result (λ l. l ≡ learned self.now.text seen) }
+    {
+        learned_of(alloc, &self.map, self.seen.as_slice())
     }
 
     /// Forgets all observations.
