@@ -56,11 +56,9 @@ pub fn compare(a: &Invariant, b: &Invariant) -> Ordering
 /// The order of invariants is total.
 pub fn order_is_total()
     ensures { IsTotalOrder invariant_cmp }
-{
-}
+{}
 
 /// Invariants that the order does not tell apart are equal.
 pub fn equal_order_is_equality()
     ensures { (a b : Invariant) → invariant_cmp a b ≡ Ordering.Equal → a ≡ b }
-{
-}
+{}
