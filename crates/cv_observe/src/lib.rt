@@ -3,8 +3,10 @@
 #![tactic(auto)]
 
 mod kinds;
+mod laws;
 mod learning;
 mod numbers;
 mod summary;
 
+pub use laws::distinct_numbers_of_two_lists;
 pub use summary::Summary;
