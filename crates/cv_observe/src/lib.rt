@@ -8,5 +8,5 @@ mod learning;
 mod numbers;
 mod summary;
 
-pub use laws::distinct_numbers_of_two_lists;
+pub use laws::{distinct_numbers_of_two_lists, learned_in_any_order};
 pub use summary::Summary;
