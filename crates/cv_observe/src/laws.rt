@@ -1,0 +1,21 @@
+ghost use Rattle.std.specs.Prelude.{◌≡◌, ℕ, ◌++◌, List, fold};
+ghost use Rattle.std.specs.BTreeSet.{insert_key};
+ghost use Rattle.std.specs.List.Sorted.{IsPermutation};
+ghost use Rattle.std.specs.Ordering.{nat_cmp};
+ghost use Rattle.cv_base.specs.declared.entries.Observation.{Observation};
+ghost use Rattle.cv_base.specs.Picture.{Picture};
+ghost use Rattle.cv_runs.specs.Learned.{distinct, learned};
+ghost use Rattle.cv_observe.specs.Words.{HaveWords};
+
+/// The distinct numbers of two lists are those of the first with those of the second added, so a
+/// summary may keep distinct numbers alone.
+pub fn distinct_numbers_of_two_lists()
+    ensures { (xs ys : List ℕ) → distinct (xs ++ ys) ≡ fold (insert_key nat_cmp) (distinct xs) (distinct ys) }
+{
+}
+
+/// The same is learned of the same observations in any order.
+pub fn learned_in_any_order()
+    ensures { (image : Picture) (xs ys : List Observation) → HaveWords xs → IsPermutation xs ys → learned image xs ≡ learned image ys }
+{
+}
