@@ -70,13 +70,13 @@ module _ (xs ys : List Observation) (same : IsPermutation xs ys) where
         let Whole : Observation → Type 0 = λ o. All (λ (v : ℕ). v < 2 ^ 32) o.regs in
         let flips = λ (s : Option ℕ) (a b : Observation). least_flips s (g a) (g b) in
         let below = λ (zs : List Observation) (all : HaveWords zs).
-          recursion_from_All (λ (v : ℕ). v < 2 ^ 32) (values_of r (seen_at zs p))
-            (All-map (λ (v : ℕ). v < 2 ^ 32) g (seen_at zs p) (All-filter at (λ (o : Observation). g o < 2 ^ 32) zs (All-weaker Whole (λ (o : Observation). g o < 2 ^ 32) (λ o h. register_below r o.regs h) zs all))) in
+        recursion_from_All (λ (v : ℕ). v < 2 ^ 32) (values_of r (seen_at zs p))
+        (All-map (λ (v : ℕ). v < 2 ^ 32) g (seen_at zs p) (All-filter at (λ (o : Observation). g o < 2 ^ 32) zs (All-weaker Whole (λ (o : Observation). g o < 2 ^ 32) (λ o h. register_below r o.regs h) zs all))) in
         signed_least_is (values_of r (seen_at xs p)) (below xs words)
         ∙ ap (λ (t : Option ℕ). unwrap_or t 0)
-          (fold-map least_so_far g None (seen_at xs p)
-          ∙ fold-passing at (λ s o. least_so_far s (g o)) flips None xs ys same
-          ∙ sym (fold-map least_so_far g None (seen_at ys p)))
+        (fold-map least_so_far g None (seen_at xs p)
+        ∙ fold-passing at (λ s o. least_so_far s (g o)) flips None xs ys same
+        ∙ sym (fold-map least_so_far g None (seen_at ys p)))
         ∙ sym (signed_least_is (values_of r (seen_at ys p)) (below ys (All-permutation Whole xs ys same words)))
 
     ordered_same : (a b : ℕ) → is_ordered (seen_at xs p) a b ≡ is_ordered (seen_at ys p) a b
@@ -98,7 +98,7 @@ module _ (xs ys : List Observation) (same : IsPermutation xs ys) where
     less_thans_same : (reads window : List ℕ) → less_thans p reads window (seen_at xs p) ≡ less_thans p reads window (seen_at ys p)
     less_thans_same reads window =
         ap (λ (t : ℕ → ℕ → Bool). flat_map (λ a. map (λ b. LessThan p a b) (filter (λ b. is_pair reads a b && t a b) window)) window)
-          (fun_ext (λ a. fun_ext (λ b. ordered_same a b)))
+        (fun_ext (λ a. fun_ext (λ b. ordered_same a b)))
 
     sp_offset_same : sp_offset p (offsets_of (seen_at xs p)) ≡ sp_offset p (offsets_of (seen_at ys p))
     sp_offset_same = ap (λ offsets. sp_offset p offsets) (distinct_same (λ (o : Observation). minus32 (register o.regs 2) o.frame_sp))
@@ -111,4 +111,4 @@ module _ (xs ys : List Observation) (same : IsPermutation xs ys) where
   learned_same image words =
       ap (λ (points : List ℕ). flat_map (λ p. learned_at p (reads_at image p) (window_registers image p) (seen_at xs p)) points) points_same
       ∙ ap (λ (at : ℕ → List Invariant). flat_map at (distinct (map (λ (o : Observation). o.point) ys)))
-        (fun_ext (λ p. learned_at_same p words (reads_at image p) (window_registers image p)))
+      (fun_ext (λ p. learned_at_same p words (reads_at image p) (window_registers image p)))

@@ -28,11 +28,11 @@ module _ {X B : Type 0} (f : B → X → B) (flips : (s : B) (a b : X) → f (f 
       ⊎_elim
       (λ up. fold_two s xs i j d up hj)
       (λ down. ⊎_elim
-        (λ same. rw same (ap (λ t. fold f s (set t j (get_or xs j d))) (set-get_or xs j d) ∙ ap (fold f s) (set-get_or xs j d)))
-        (λ other.
-          let low : j < i = omega arith in
-          ap (fold f s) (set_comm xs i j (get_or xs j d) (get_or xs i d) other) ∙ fold_two s xs j i d low hi)
-        (cases_eq i j))
+      (λ same. rw same (ap (λ t. fold f s (set t j (get_or xs j d))) (set-get_or xs j d) ∙ ap (fold f s) (set-get_or xs j d)))
+      (λ other.
+      let low : j < i = omega arith in
+      ap (fold f s) (set_comm xs i j (get_or xs j d) (get_or xs i d) other) ∙ fold_two s xs j i d low hi)
+      (cases_eq i j))
       (cases_lt i j)
 
   fold_swap : (s : B) (xs : List X) (i j : ℕ) → i < length xs → j < length xs → fold f s (swap xs i j) ≡ fold f s xs

@@ -48,20 +48,20 @@ put_lesser [] a b h = behind b a [] h ∙ sym (before a b [] h)
 put_lesser (x ∷ xs) a b h =
     three (put (put (x ∷ xs) a) b ≡ put (put (x ∷ xs) b) a) a x
     (λ low.
-      ap (λ l. put l b) (before a x xs low) ∙ behind b a (x ∷ xs) h
-      ∙ three (a ∷ put (x ∷ xs) b ≡ put (put (x ∷ xs) b) a) b x
-          (λ e. rw (before b x xs e) (sym (before a b (x ∷ xs) h)))
-          (λ e. rw (there b x xs e) (sym (before a x xs low)))
-          (λ e. rw (behind b x xs e) (sym (before a x (put xs b) low))))
+    ap (λ l. put l b) (before a x xs low) ∙ behind b a (x ∷ xs) h
+    ∙ three (a ∷ put (x ∷ xs) b ≡ put (put (x ∷ xs) b) a) b x
+    (λ e. rw (before b x xs e) (sym (before a b (x ∷ xs) h)))
+    (λ e. rw (there b x xs e) (sym (before a x xs low)))
+    (λ e. rw (behind b x xs e) (sym (before a x (put xs b) low))))
     (λ same.
-      let up : x < b = omega arith in
-      ap (λ l. put l b) (there a x xs same) ∙ behind b x xs up
-      ∙ sym (ap (λ l. put l a) (behind b x xs up) ∙ there a x (put xs b) same))
+    let up : x < b = omega arith in
+    ap (λ l. put l b) (there a x xs same) ∙ behind b x xs up
+    ∙ sym (ap (λ l. put l a) (behind b x xs up) ∙ there a x (put xs b) same))
     (λ high.
-      let up : x < b = omega arith in
-      ap (λ l. put l b) (behind a x xs high) ∙ behind b x (put xs a) up
-      ∙ ap (λ l. x ∷ l) (put_lesser xs a b h)
-      ∙ sym (ap (λ l. put l a) (behind b x xs up) ∙ behind a x (put xs b) high))
+    let up : x < b = omega arith in
+    ap (λ l. put l b) (behind a x xs high) ∙ behind b x (put xs a) up
+    ∙ ap (λ l. x ∷ l) (put_lesser xs a b h)
+    ∙ sym (ap (λ l. put l a) (behind b x xs up) ∙ behind a x (put xs b) high))
 
 pub put_put : (xs : List ℕ) (a b : ℕ) → put (put xs a) b ≡ put (put xs b) a
 put_put xs a b =

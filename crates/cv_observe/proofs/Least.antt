@@ -52,26 +52,26 @@ pub signed_lt_is : (a b : ℕ) → a < 2 ^ 32 → b < 2 ^ 32 → signed_lt a b �
 signed_lt_is a b ha hb =
     ⊎_elim
     (λ la. ⊎_elim
-      (λ lb. joined a b (pos a) (pos b) (a + 2 ^ 31) (b + 2 ^ 31) (cast_low a la) (cast_low b lb) (rank_low a la) (rank_low b lb) (low_low a b))
-      (λ gb. joined a b (pos a) (negsuc (2 ^ 32 - suc b)) (a + 2 ^ 31) (b - 2 ^ 31) (cast_low a la) (cast_high b gb) (rank_low a la) (rank_high b gb) (low_high a b hb))
-      (cases_lt b (2 ^ 31)))
+    (λ lb. joined a b (pos a) (pos b) (a + 2 ^ 31) (b + 2 ^ 31) (cast_low a la) (cast_low b lb) (rank_low a la) (rank_low b lb) (low_low a b))
+    (λ gb. joined a b (pos a) (negsuc (2 ^ 32 - suc b)) (a + 2 ^ 31) (b - 2 ^ 31) (cast_low a la) (cast_high b gb) (rank_low a la) (rank_high b gb) (low_high a b hb))
+    (cases_lt b (2 ^ 31)))
     (λ ga. ⊎_elim
-      (λ lb. joined a b (negsuc (2 ^ 32 - suc a)) (pos b) (a - 2 ^ 31) (b + 2 ^ 31) (cast_high a ga) (cast_low b lb) (rank_high a ga) (rank_low b lb) (high_low a b ha))
-      (λ gb. joined a b (negsuc (2 ^ 32 - suc a)) (negsuc (2 ^ 32 - suc b)) (a - 2 ^ 31) (b - 2 ^ 31) (cast_high a ga) (cast_high b gb) (rank_high a ga) (rank_high b gb) (high_high a b ha hb ga gb))
-      (cases_lt b (2 ^ 31)))
+    (λ lb. joined a b (negsuc (2 ^ 32 - suc a)) (pos b) (a - 2 ^ 31) (b + 2 ^ 31) (cast_high a ga) (cast_low b lb) (rank_high a ga) (rank_low b lb) (high_low a b ha))
+    (λ gb. joined a b (negsuc (2 ^ 32 - suc a)) (negsuc (2 ^ 32 - suc b)) (a - 2 ^ 31) (b - 2 ^ 31) (cast_high a ga) (cast_high b gb) (rank_high a ga) (rank_high b gb) (high_high a b ha hb ga gb))
+    (cases_lt b (2 ^ 31)))
     (cases_lt a (2 ^ 31))
 
 rank_same : (a b : ℕ) → a < 2 ^ 32 → b < 2 ^ 32 → rank a ≡ rank b → a ≡ b
 rank_same a b ha hb same =
     ⊎_elim
     (λ la. ⊎_elim
-      (λ lb. let p = rank_low a la in let q = rank_low b lb in omega arith)
-      (λ gb. let p = rank_low a la in let q = rank_high b gb in omega arith)
-      (cases_lt b (2 ^ 31)))
+    (λ lb. let p = rank_low a la in let q = rank_low b lb in omega arith)
+    (λ gb. let p = rank_low a la in let q = rank_high b gb in omega arith)
+    (cases_lt b (2 ^ 31)))
     (λ ga. ⊎_elim
-      (λ lb. let p = rank_high a ga in let q = rank_low b lb in omega arith)
-      (λ gb. let p = rank_high a ga in let q = rank_high b gb in omega arith)
-      (cases_lt b (2 ^ 31)))
+    (λ lb. let p = rank_high a ga in let q = rank_low b lb in omega arith)
+    (λ gb. let p = rank_high a ga in let q = rank_high b gb in omega arith)
+    (cases_lt b (2 ^ 31)))
     (cases_lt a (2 ^ 31))
 
 below : (m n : ℕ) → m < n → ltb m n ≡ true
@@ -92,22 +92,22 @@ lesser_flips a b ha hb =
     ⊎_elim
     (λ up. first a b ha hb (omega arith) ∙ sym (second b a hb ha up))
     (λ down. ⊎_elim
-      (λ more. second a b ha hb more ∙ sym (first b a hb ha (omega arith)))
-      (λ less. let e : a ≡ b = rank_same a b ha hb (omega arith) in rw e refl)
-      (cases_lt (rank b) (rank a)))
+    (λ more. second a b ha hb more ∙ sym (first b a hb ha (omega arith)))
+    (λ less. let e : a ≡ b = rank_same a b ha hb (omega arith) in rw e refl)
+    (cases_lt (rank b) (rank a)))
     (cases_lt (rank a) (rank b))
 
 pub lesser_lesser : (s a b : ℕ) → s < 2 ^ 32 → a < 2 ^ 32 → b < 2 ^ 32 → lesser (lesser s a) b ≡ lesser (lesser s b) a
 lesser_lesser s a b hs ha hb =
     ⊎_elim
     (λ al. ⊎_elim
-      (λ bl. ap (λ t. lesser t b) (second s a hs ha al) ∙ lesser_flips a b ha hb ∙ sym (ap (λ t. lesser t a) (second s b hs hb bl)))
-      (λ bg. ap (λ t. lesser t b) (second s a hs ha al) ∙ first a b ha hb (omega arith) ∙ sym (ap (λ t. lesser t a) (first s b hs hb bg) ∙ second s a hs ha al))
-      (cases_lt (rank b) (rank s)))
+    (λ bl. ap (λ t. lesser t b) (second s a hs ha al) ∙ lesser_flips a b ha hb ∙ sym (ap (λ t. lesser t a) (second s b hs hb bl)))
+    (λ bg. ap (λ t. lesser t b) (second s a hs ha al) ∙ first a b ha hb (omega arith) ∙ sym (ap (λ t. lesser t a) (first s b hs hb bg) ∙ second s a hs ha al))
+    (cases_lt (rank b) (rank s)))
     (λ ag. ⊎_elim
-      (λ bl. ap (λ t. lesser t b) (first s a hs ha ag) ∙ second s b hs hb bl ∙ sym (ap (λ t. lesser t a) (second s b hs hb bl) ∙ first b a hb ha (omega arith)))
-      (λ bg. ap (λ t. lesser t b) (first s a hs ha ag) ∙ first s b hs hb bg ∙ sym (ap (λ t. lesser t a) (first s b hs hb bg) ∙ first s a hs ha ag))
-      (cases_lt (rank b) (rank s)))
+    (λ bl. ap (λ t. lesser t b) (first s a hs ha ag) ∙ second s b hs hb bl ∙ sym (ap (λ t. lesser t a) (second s b hs hb bl) ∙ first b a hb ha (omega arith)))
+    (λ bg. ap (λ t. lesser t b) (first s a hs ha ag) ∙ first s b hs hb bg ∙ sym (ap (λ t. lesser t a) (first s b hs hb bg) ∙ first s a hs ha ag))
+    (cases_lt (rank b) (rank s)))
     (cases_lt (rank a) (rank s))
 
 -- the least so far, of numbers that are cut to words

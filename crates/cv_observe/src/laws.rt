@@ -11,11 +11,9 @@ ghost use Rattle.cv_observe.specs.Words.{HaveWords};
 /// summary may keep distinct numbers alone.
 pub fn distinct_numbers_of_two_lists()
     ensures { (xs ys : List ℕ) → distinct (xs ++ ys) ≡ fold (insert_key nat_cmp) (distinct xs) (distinct ys) }
-{
-}
+{}
 
 /// The same is learned of the same observations in any order.
 pub fn learned_in_any_order()
     ensures { (image : Picture) (xs ys : List Observation) → HaveWords xs → IsPermutation xs ys → learned image xs ≡ learned image ys }
-{
-}
+{}
