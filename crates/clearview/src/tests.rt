@@ -1,3 +1,5 @@
+ghost use Rattle.std.specs.Prelude.{◌≡◌, IfOk, vec_len};
+
 use crate::cause::Cause;
 use crate::tool::tool;
 use cv_base::{ImageFault, NoMemory};
@@ -348,7 +350,7 @@ fn other_words_are_no_command(rt: HostRuntime) -> Result<(), Fail> {
 
 #[test]
 fn files_are_refused_by_cause(rt: HostRuntime) -> Result<(), Fail> {
-    let zeros = vec![in rt.alloc(); 0u8; 16_777_217]?;
+    let zeros = zeros(rt.alloc(), 16_777_217)?;
     assert_eq!(rt; zeros.len(), 16_777_217);
     let mut store = MemStore::make(rt.alloc());
     store.put("empty", b"")?;
@@ -420,6 +422,13 @@ fn files_are_refused_by_cause(rt: HostRuntime) -> Result<(), Fail> {
         assert_eq!(rt; told.2.bytes().len(), 0);
     }
     Ok(())
+}
+
+/// So many bytes 0. The length is a parameter, since the prover would write a literal out as a list.
+fn zeros(alloc: Global, len: usize) -> Result<Vec<u8>, NoMemory>
+    ensures { IfOk result (λ bytes. vec_len bytes ≡ len) }
+{
+    Ok(vec![in alloc; 0u8; len]?)
 }
 
 /// A job with 1,025 inputs.
