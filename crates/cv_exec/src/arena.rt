@@ -139,6 +139,7 @@ impl Arena {
         ensures plan { IfOk result (λ r. r.plan ≡ self.old.plan) }
         ensures entry { IfOk result (λ r. entry_of_going self.old.plan self.old.going ≡ Some r.entry) }
         ensures turns { IfOk result (λ r. r.entry.turns ≤ self.old.plan.budget) }
+        ensures worker { IfOk result (λ r. r.entry.worker < self.old.plan.workers) }
         ensures seen { OnOk result (StandsFor self.new.summary (observations (steps_of_going self.old.plan self.old.going))) }
         ensures left { OnOk result (self.new ≡ record self.old { going = None }) }
         ensures err { OnErr result (self.new ≡ self.old) }

@@ -11,3 +11,6 @@ mod turns;
 pub use arena::Arena;
 pub use plans::SharedPlan;
 pub use record::Record;
+
+#[cfg(test)]
+mod tests;
