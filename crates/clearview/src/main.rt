@@ -7,8 +7,6 @@ mod cause;
 mod files;
 mod plain;
 #[cfg(test)]
-mod rows;
-#[cfg(test)]
 mod tests;
 mod texts;
 mod tool;

@@ -274,7 +274,7 @@ fn flat_file(alloc: Global, words: &[u32]) -> Result<Vec<u8>, NoMemory> {
 }
 
 /// The cause, the status, and the text that a call writes.
-pub(crate) fn answer(
+fn answer(
     alloc: Global,
     words: &[&str],
     store: &mut MemStore,
