@@ -1,13 +1,15 @@
-// A library with one function.
+//! Maps of a text, made once: its instructions, windows and procedures; and where blocks begin in
+//! a run (docs/REPAIR.md, "Windows and procedures", "Block entries").
 #![tactic(auto)]
 
-ghost use Rattle.std.specs.Prelude.{◌≡◌};
-ghost use Rattle.cv_blocks.specs.Echo.{echo_of};
+mod entries;
+mod listing;
+mod procedures;
+mod text_map;
+mod windows;
 
-// The `ensures` clause is the contract: what `echo` returns is `echo_of` of its argument, a definition
-// in `specs/Echo.antt`, which a caller's clause can cite too.
-pub fn echo(x: usize) -> usize
-    ensures { result ≡ echo_of x }
-{
-    x
-}
+pub use entries::EntryRule;
+pub use text_map::{TextMap, segments_are_not_asked};
+
+#[cfg(test)]
+mod tests;

@@ -1,0 +1,5 @@
+pub mod Bounds
+pub mod FromImage
+pub mod FromTables
+pub mod Starts
+pub mod WindowSets
