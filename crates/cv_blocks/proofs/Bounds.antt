@@ -1,6 +1,6 @@
 -- The nearest numbers below and above a limit: as folds over any list, and by a search in an ascending one.
-use Rattle.std.proofs.Common.{◌≡◌, ℕ, zero, suc, Bool, true, false, ◌&&◌, ◌||◌, ◌+◌, ◌-◌, ◌<◌, ◌≤◌, min, max, leb, ltb, eqb, List, [], ◌∷◌, length, get_or, cond, refl, sym, ◌∙◌, ◌⊎◌, inl, inr, arith}
-use Rattle.std.specs.List.{filter, fold, list_any}
+use Rattle.std.proofs.Common.{◌≡◌, ℕ, suc, Bool, true, false, ◌&&◌, ◌||◌, ◌-◌, ◌<◌, ◌≤◌, min, max, leb, ltb, eqb, List, [], ◌∷◌, length, get_or, cond, refl, sym, ◌∙◌, ◌⊎◌, inl, inr, arith}
+use Rattle.std.specs.List.{filter, fold}
 use Rattle.std.specs.List.Sorted.{IsNonDecreasing, IsPartitionPoint, IsPermutation}
 use Rattle.std.proofs.lemmas.Bool.{cases_lt, lt-ltb}
 use Rattle.std.proofs.lemmas.Bool.Decides.{nat_tests}

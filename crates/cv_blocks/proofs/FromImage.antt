@@ -1,11 +1,11 @@
 -- The text of an image is one that can be listed.
-use Rattle.std.proofs.Common.{◌≡◌, ℕ, Bool, true, false, ◌&&◌, ◌+◌, ◌*◌, ◌≤◌, List, [], ◌∷◌, length, Option, Some, cond, arith}
+use Rattle.std.proofs.Common.{◌≡◌, Bool, true, false, ◌&&◌, ◌+◌, ◌*◌, ◌≤◌, List, [], ◌∷◌, length, Option, Some, cond, arith}
 use Rattle.std.specs.List.{find, list_all}
 use Rattle.std.proofs.lemmas.Bool.Decides.{nat_tests}
 use Rattle.cv_base.specs.declared.TheConstants.{HEAP_START}
 use Rattle.cv_base.specs.declared.image.Segment.{Segment}
 use Rattle.cv_base.specs.Picture.{Picture}
-use Rattle.cv_base.specs.WellFormed.{IsImage, HasText, IsText, is_placed}
+use Rattle.cv_base.specs.WellFormed.{IsImage, HasText, is_placed}
 use Rattle.cv_blocks.specs.TextMap.{text_only, IsListed}
 
 placed_end : (s : Segment) (rest : Bool) → (is_placed s && rest) ≡ true → s.region.end ≤ HEAP_START

@@ -1,5 +1,4 @@
-use Rattle.std.proofs.Common.{◌≡◌, ℕ, true, false, leb, rules, arith}
-use Rattle.std.specs.List.Sorted.{IsPartitionPoint}
+use Rattle.std.proofs.Common.{ℕ, leb, rules, arith}
 use Rattle.std.proofs.lemmas.List.Sorted.{IsPartitionPoint-from_clause, IsPartitionedBy-leb}
 use Rattle.cv_blocks.proofs.Bounds.{none_found, last_found}
 use Rattle.cv_blocks.proofs.procedures.last_up_to.Goals as goal

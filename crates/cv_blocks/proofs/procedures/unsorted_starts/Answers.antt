@@ -1,4 +1,4 @@
-use Rattle.std.proofs.Common.{◌≡◌, ◌+◌, ◌*◌, rules}
+use Rattle.std.proofs.Common.{◌+◌, ◌*◌, rules}
 use Rattle.cv_base.specs.Picture.{is_point}
 use Rattle.cv_runs.specs.Text.{call_target, inst_at}
 use Rattle.cv_blocks.proofs.Starts.{starts_more}

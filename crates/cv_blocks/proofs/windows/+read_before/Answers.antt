@@ -1,4 +1,4 @@
-use Rattle.std.proofs.Common.{◌≡◌, ◌≤◌, ◌-◌, true, false, eqb, rules, tests, arith}
+use Rattle.std.proofs.Common.{◌≡◌, ◌-◌, true, false, eqb, rules, tests, arith}
 use Rattle.cv_runs.specs.Text.{inst_at, transfers}
 use Rattle.cv_blocks.proofs.WindowSets.{stopped_sets, more_sets}
 use Rattle.cv_blocks.proofs.windows.+read_before.Goals as goal
