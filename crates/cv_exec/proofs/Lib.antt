@@ -1,0 +1,3 @@
+pub mod Inputs
+pub mod Stages
+pub mod Turned

@@ -1,0 +1,5 @@
+pub mod ArenaOf
+pub mod LearnRun
+pub mod RecordOf
+pub mod RunEnds
+pub mod StandsAt
