@@ -1,4 +1,5 @@
 ghost use Rattle.std.specs.Prelude.{◌≡◌, ◌≤◌, ◌<◌, Some, None, false, true, IfOk, OnOk, OnErr, IsSome};
+ghost use Rattle.cv_blocks.specs.TextMap.{text_only};
 ghost use Rattle.cv_exec.specs.ArenaOf.{has_ended, steps_of_going, steps_made, one_more, entry_of_going};
 ghost use Rattle.cv_exec.specs.LearnRun.{IsLearnRun, learn_steps, entry_by};
 ghost use Rattle.cv_observe.specs.StandsFor.{StandsFor};
@@ -199,6 +200,7 @@ impl Arena {
     /// that was finished.
     pub fn summary(&self) -> &Summary
         ensures value { result.now ≡ self.now.summary }
+        ensures text { result.now.text ≡ text_only self.now.plan.image }
         ensures so_far { IsSome self.now.going → StandsFor result.now (observations (steps_made self.now.plan self.now.going)) }
     {
         let _started = &self.started;
