@@ -3,6 +3,7 @@ use Rattle.std.proofs.Common.{◌≡◌, ◌≢◌, ◌<◌, ◌≤◌, ℕ, zer
 use Rattle.std.specs.Prelude.{Bool, true, false, slice_get, option_map, IsSomeAnd}
 use Rattle.std.specs.List.{flat_map}
 use Rattle.std.proofs.Math.Nat.{sub-zero}
+use Rattle.std.proofs.lemmas.List.Sums.{sum_by-cons}
 use Rattle.std.proofs.lemmas.List.{append-nil, take_all, length-map}
 use Rattle.cv_base.specs.declared.entries.Entry.{Entry}
 use Rattle.cv_base.specs.declared.entries.Observation.{Observation}
@@ -28,7 +29,7 @@ count_from : (n : ℕ) (rounds : List Round) → length (runs_from n rounds) ≡
 count_from n [] = refl
 count_from n (r ∷ rs) =
     let rest = count_from (n + 1) rs in
-    length-append (map (λ (input : List ℕ). run_with n r.mode input) r.inputs) (runs_from (n + 1) rs) ∙ rw (length-map, rest) refl
+    length-append (map (λ (input : List ℕ). run_with n r.mode input) r.inputs) (runs_from (n + 1) rs) ∙ rw (length-map, rest) (sym (sum_by-cons (λ (x : Round). length x.inputs) r rs))
 
 pub count : (plan : PlanOf) (rounds : List Round) → rounds ≡ plan.rounds → runs_of rounds ≡ length (runs plan)
 count plan rounds same = sym (count_from 0 rounds) ∙ ap (λ rs. length (runs_from 0 rs)) same
@@ -48,7 +49,10 @@ behind n (suc left) mode (i ∷ is) rest h = behind n left mode is rest (omega a
 opened : (rounds : List Round) (k : ℕ) (r : Round) → k < length rounds → r ≡ get_or rounds k r
     → runs_from k (drop k rounds) ≡ map (λ (input : List ℕ). run_with k r.mode input) r.inputs ++ runs_from (k + 1) (drop (k + 1) rounds)
 opened rounds k r h is =
-    rw add-one (ap (runs_from k) (drop-cons rounds k r h) ∙ ap (λ (x : Round). map (λ (input : List ℕ). run_with k x.mode input) x.inputs ++ runs_from (suc k) (drop (suc k) rounds)) (sym is))
+    let next : suc k ≡ k + 1 = omega arith in
+    ap (runs_from k) (drop-cons rounds k r h)
+    ∙ ap (λ (x : Round). map (λ (input : List ℕ). run_with k x.mode input) x.inputs ++ runs_from (k + 1) (drop (suc k) rounds)) (sym is)
+    ∙ ap (λ j. map (λ (input : List ℕ). run_with k r.mode input) r.inputs ++ runs_from (k + 1) (drop j rounds)) next
 
 -- the run lies in the round r
 pub found : (rounds : List Round) (number k left : ℕ) (r : Round) → k < length rounds → r ≡ get_or rounds k r
@@ -93,7 +97,9 @@ seen_live plan (Some run) other = by_mode run.mode (seen_in_run (plain_run plan.
 
 of_learn : (plan : PlanOf) (run : Run) (b : Bool) → run.mode ≡ Learn → is_exit (end_of (plain_run plan.image run.input plan.budget)) ≡ b
     → seen_in_learn_run plan run ≡ (elim b as (λ _. List Observation) [ true ↦ observations (plain_run plan.image run.input plan.budget) | false ↦ [] ])
-of_learn plan run b mode ends = rw (mode, ends) refl
+of_learn plan run b mode ends =
+    ap (λ (m : Mode). elim (is_live m) as (λ _. List Observation) [ true ↦ [] | false ↦ seen_in_run (plain_run plan.image run.input plan.budget) ]) mode
+    ∙ ap (λ (x : Bool). elim x as (λ _. List Observation) [ true ↦ observations (plain_run plan.image run.input plan.budget) | false ↦ [] ]) ends
 
 seen_learn : (plan : PlanOf) (number : ℕ) (o : Option Run) (e : Entry) (b : Bool) → option_map (λ (r : Run). r.mode) o ≡ Some Learn
     → option_map (entry_with plan number 0) o ≡ Some e → is_exit e.end ≡ b
