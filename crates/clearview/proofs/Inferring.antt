@@ -1,23 +1,17 @@
 -- What is learned of the runs of a plan, one after another.
-use Rattle.std.proofs.Common.{◌≡◌, ◌≢◌, ◌<◌, ◌≤◌, ℕ, zero, suc, ◌+◌, ◌-◌, List, [], ◌∷◌, ◌++◌, length, take, drop, get_or, map, Option, Some, None, refl, sym, ap, ◌∙◌, arith, add-one, drop-cons, length-append, append_assoc, subst}
-use Rattle.std.specs.Prelude.{Bool, true, false, slice_get, option_map, IsSomeAnd}
+use Rattle.std.proofs.Common.{◌≡◌, ◌<◌, ◌≤◌, ℕ, zero, suc, ◌+◌, ◌-◌, List, [], ◌∷◌, ◌++◌, length, take, drop, get_or, map, Option, Some, refl, sym, ap, ◌∙◌, arith, add-one, drop-cons, length-append, append_assoc, subst}
+use Rattle.std.specs.Prelude.{slice_get, option_map}
 use Rattle.std.specs.List.{flat_map}
 use Rattle.std.proofs.Math.Nat.{sub-zero}
 use Rattle.std.proofs.lemmas.List.Sums.{sum_by-cons}
 use Rattle.std.proofs.lemmas.List.{append-nil, take_all, length-map}
-use Rattle.cv_base.specs.declared.entries.Entry.{Entry}
 use Rattle.cv_base.specs.declared.entries.Observation.{Observation}
 use Rattle.cv_base.specs.declared.plan.Mode.{Mode}
-use Rattle.cv_base.specs.declared.plan.Mode.TheVariants.{Learn, Live}
 use Rattle.cv_base.specs.declared.plan.Round.{Round}
 use Rattle.cv_base.specs.PlanOf.{PlanOf, runs_of}
-use Rattle.cv_exec.specs.LearnRun.{IsLearnRun, entry_by, entry_with, learn_steps, steps_with}
-use Rattle.cv_histories.specs.OtherTexts.{seen_in_learn_run, seen_in_run}
-use Rattle.cv_histories.specs.Runs.{Run, run_at, runs, runs_from}
-use Rattle.cv_histories.specs.Seen.{is_exit, is_live}
+use Rattle.cv_histories.specs.OtherTexts.{seen_in_learn_run}
+use Rattle.cv_histories.specs.Runs.{Run, runs, runs_from}
 use Rattle.cv_observe.specs.StandsFor.{StandsFor, SummaryOf}
-use Rattle.cv_runs.specs.Learned.{observations}
-use Rattle.cv_runs.specs.PlainRun.{plain_run, end_of}
 use Rattle.clearview.specs.Inferring.{seen_of, seen_in_run_at}
 
 -- ---- the runs of a plan by their numbers
@@ -70,68 +64,7 @@ passed rounds number k left r h is so_far above =
     sym (behind k left r.mode r.inputs (runs_from (k + 1) (drop (k + 1) rounds)) above)
     ∙ ap (λ l. slice_get l left) (sym (opened rounds k r h is)) ∙ so_far
 
--- no round is left
-pub past : (rounds : List Round) (k n left : ℕ) → length rounds ≤ k → slice_get (runs_from n (drop k rounds)) left ≡ None
-past [] zero n left h = refl
-past [] (suc k) n left h = refl
-past (r ∷ rs) zero n left h = absurd (omega arith)
-past (r ∷ rs) (suc k) n left h = past rs k n left (omega arith)
-
 -- ---- what is seen in them
-
-learns_one : (o : Option Run) → option_map (λ (r : Run). r.mode) o ≡ Some Learn → IsSomeAnd o (λ (run : Run). run.mode ≡ Learn)
-learns_one None e = cc
-learns_one (Some run) e = cc
-
-pub learns : (plan : PlanOf) (number : ℕ) → option_map (λ (r : Run). r.mode) (run_at plan number) ≡ Some Learn → IsLearnRun plan number
-learns plan number e = learns_one (run_at plan number) e
-
-by_mode : (mode : Mode) (seen : List Observation) → Some mode ≢ Some Learn
-    → (elim (is_live mode) as (λ _. List Observation) [ true ↦ [] | false ↦ seen ]) ≡ []
-by_mode Learn seen other = absurd (other refl)
-by_mode Live seen other = refl
-
-seen_live : (plan : PlanOf) (o : Option Run) → option_map (λ (r : Run). r.mode) o ≢ Some Learn → seen_of plan o ≡ []
-seen_live plan None other = refl
-seen_live plan (Some run) other = by_mode run.mode (seen_in_run (plain_run plan.image run.input plan.budget)) other
-
-of_learn : (plan : PlanOf) (run : Run) (b : Bool) → run.mode ≡ Learn → is_exit (end_of (plain_run plan.image run.input plan.budget)) ≡ b
-    → seen_in_learn_run plan run ≡ (elim b as (λ _. List Observation) [ true ↦ observations (plain_run plan.image run.input plan.budget) | false ↦ [] ])
-of_learn plan run b mode ends =
-    ap (λ (m : Mode). elim (is_live m) as (λ _. List Observation) [ true ↦ [] | false ↦ seen_in_run (plain_run plan.image run.input plan.budget) ]) mode
-    ∙ ap (λ (x : Bool). elim x as (λ _. List Observation) [ true ↦ observations (plain_run plan.image run.input plan.budget) | false ↦ [] ]) ends
-
-seen_learn : (plan : PlanOf) (number : ℕ) (o : Option Run) (e : Entry) (b : Bool) → option_map (λ (r : Run). r.mode) o ≡ Some Learn
-    → option_map (entry_with plan number 0) o ≡ Some e → is_exit e.end ≡ b
-    → seen_of plan o ≡ (elim b as (λ _. List Observation) [ true ↦ observations (steps_with plan o) | false ↦ [] ])
-seen_learn plan number None e b mode entry ends = cc
-seen_learn plan number (Some run) e b mode entry ends =
-    let same : entry_with plan number 0 run ≡ e = cc in
-    let learn : run.mode ≡ Learn = cc in
-    of_learn plan run b learn (ap (λ (x : Entry). is_exit x.end) same ∙ ends)
-
-nothing_more : (s : SummaryOf) (seen more : List Observation) → more ≡ [] → StandsFor s seen → StandsFor s (seen ++ more)
-nothing_more s seen more e stands = subst (λ l. StandsFor s l) (sym (ap (λ l. seen ++ l) e ∙ append-nil seen)) stands
-
-pub not_learned : (plan : PlanOf) (number : ℕ) (s : SummaryOf) → option_map (λ (r : Run). r.mode) (run_at plan number) ≢ Some Learn
-    → (seen : List Observation) → StandsFor s seen → StandsFor s (seen ++ seen_in_run_at plan number)
-not_learned plan number s other seen stands =
-    nothing_more s seen (seen_in_run_at plan number) (seen_live plan (run_at plan number) other) stands
-
-pub not_exited : (plan : PlanOf) (number : ℕ) (s : SummaryOf) (e : Entry) → option_map (λ (r : Run). r.mode) (run_at plan number) ≡ Some Learn
-    → entry_by plan number 0 ≡ Some e → is_exit e.end ≡ false
-    → (seen : List Observation) → StandsFor s seen → StandsFor s (seen ++ seen_in_run_at plan number)
-not_exited plan number s e mode entry ends seen stands =
-    nothing_more s seen (seen_in_run_at plan number) (seen_learn plan number (run_at plan number) e false mode entry ends) stands
-
-pub exited : (plan : PlanOf) (number : ℕ) (old other new : SummaryOf) (e : Entry) → option_map (λ (r : Run). r.mode) (run_at plan number) ≡ Some Learn
-    → entry_by plan number 0 ≡ Some e → is_exit e.end ≡ true
-    → StandsFor other (observations (learn_steps plan number))
-    → ((xs ys : List Observation) → StandsFor old xs → StandsFor other ys → StandsFor new (xs ++ ys))
-    → (seen : List Observation) → StandsFor old seen → StandsFor new (seen ++ seen_in_run_at plan number)
-exited plan number old other new e mode entry ends there merged seen stands =
-    subst (λ l. StandsFor new (seen ++ l)) (sym (seen_learn plan number (run_at plan number) e true mode entry ends))
-      (merged seen (observations (learn_steps plan number)) stands there)
 
 more : (plan : PlanOf) (rs : List Run) (k : ℕ)
     → flat_map (seen_in_learn_run plan) (take (suc k) rs) ≡ flat_map (seen_in_learn_run plan) (take k rs) ++ seen_of plan (slice_get rs k)
