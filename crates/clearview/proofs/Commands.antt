@@ -1,17 +1,18 @@
 -- What the parts of a command say of its text.
-use Rattle.std.proofs.Common.{◌≡◌, ℕ, ◌+◌, ◌≤◌, List, Option, Some, None, Result, Ok, Err, IfSome, inl, inr, ap, sym, refl, ◌∙◌, arith, subst, string_bytes}
+use Rattle.std.proofs.Common.{◌≡◌, ℕ, ◌+◌, ◌≤◌, List, Option, Some, None, Result, Ok, Err, IfSome, inl, inr, refl, ◌∙◌, arith, string_bytes}
 use Rattle.std.specs.declared.string.String.{String}
 use Rattle.std.specs.declared.alloc.Global.{Global}
 use Rattle.cv_base.specs.Picture.{Picture}
 use Rattle.cv_edge.specs.Edge.{Held, UpTo, FetchesUpTo, FetchesOnce}
-use Rattle.cv_job.specs.JobOf.{JobOf, plan_of}
+use Rattle.cv_base.specs.PlanOf.{PlanOf}
+use Rattle.cv_histories.specs.OtherTexts.{infer_text}
 use Rattle.cv_runs.specs.PlainText.{plain_text}
 use Rattle.clearview.specs.declared.cause.Cause.{Cause}
 use Rattle.clearview.specs.declared.cause.Cause.TheVariants as cause
 use Rattle.clearview.specs.CheckText.{check_text}
-use Rattle.clearview.specs.Gives.{Gives, GivesText, check_by}
-use Rattle.clearview.specs.Verdict.{Verdict, image_in, job_in, verdict_by}
-use Rattle.clearview.specs.Words.{Plain, Check}
+use Rattle.clearview.specs.Gives.{Gives, GivesText}
+use Rattle.clearview.specs.Verdict.{image_in, plan_in, verdict_by}
+use Rattle.clearview.specs.Words.{Plain, Check, Infer}
 
 -- ---- fetches
 
@@ -51,40 +52,32 @@ plain_against None image budget input c gives = tt
 plain_against (Some held) image budget input c (inl e) = inl (rw e refl)
 plain_against (Some held) image budget input c (inr free) = inr free
 
--- ---- check
+-- ---- check and infer
 
-pub check_ran : (told : Option Held) (order : JobOf) (picture : Picture) (s : String Global)
-    → IfSome told (λ held. Gives (image_in (held.file order.image)) (Ok picture))
-    → string_bytes s ≡ check_text (plan_of order picture)
-    → IfSome told (λ held. GivesText (check_by order held.file) (Ok s))
-check_ran None order picture s gives text = tt
-check_ran (Some held) order picture s gives text = rw (gives, text) refl
+pub check_ran : (told : Option Held) (job : List ℕ) (plan : PlanOf) (s : String Global)
+    → IfSome told (λ held. Gives (plan_in held.file job) (Ok plan))
+    → string_bytes s ≡ check_text plan
+    → IfSome told (λ held. GivesText (verdict_by (Some (Check job)) held.file) (Ok s))
+check_ran None job plan s gives text = tt
+check_ran (Some held) job plan s gives text = rw (gives, text) refl
 
-pub check_against : (told : Option Held) (order : JobOf) (c : Cause)
-    → IfSome told (λ held. Gives (image_in (held.file order.image)) (Err c))
-    → IfSome told (λ held. GivesText (check_by order held.file) (Err c))
-check_against None order c gives = tt
-check_against (Some held) order c (inl e) = inl (rw e refl)
-check_against (Some held) order c (inr free) = inr free
-
-verdict_of_job : (file : List ℕ → Option (List ℕ)) (job : List ℕ) (order : JobOf) → job_in (file job) ≡ Ok order
-    → verdict_by (Some (Check job)) file ≡ check_by order file
-verdict_of_job file job order e = rw e refl
-
-pub check_went_on : (told left : Option Held) (job : List ℕ) (order : JobOf) (r : Result (String Global) Cause)
-    → FetchesOnce told left
-    → IfSome told (λ held. Gives (job_in (held.file job)) (Ok order))
-    → IfSome left (λ held. GivesText (check_by order held.file) r)
-    → IfSome told (λ held. GivesText (verdict_by (Some (Check job)) held.file) r)
-check_went_on None left job order r once gives text = tt
-check_went_on (Some held) None job order r once gives text = absurd once
-check_went_on (Some held) (Some later) job order r once gives text =
-    let e = verdict_of_job held.file job order gives ∙ ap (check_by order) (sym once.same) in
-    subst (λ (v : Verdict). GivesText v r) (sym e) text
-
-pub check_stopped : (told : Option Held) (job : List ℕ) (c : Cause)
-    → IfSome told (λ held. Gives (job_in (held.file job)) (Err c))
+pub check_against : (told : Option Held) (job : List ℕ) (c : Cause)
+    → IfSome told (λ held. Gives (plan_in held.file job) (Err c))
     → IfSome told (λ held. GivesText (verdict_by (Some (Check job)) held.file) (Err c))
-check_stopped None job c gives = tt
-check_stopped (Some held) job c (inl e) = inl (rw e refl)
-check_stopped (Some held) job c (inr free) = inr free
+check_against None job c gives = tt
+check_against (Some held) job c (inl e) = inl (rw e refl)
+check_against (Some held) job c (inr free) = inr free
+
+pub infer_ran : (told : Option Held) (job : List ℕ) (plan : PlanOf) (s : String Global)
+    → IfSome told (λ held. Gives (plan_in held.file job) (Ok plan))
+    → string_bytes s ≡ infer_text plan
+    → IfSome told (λ held. GivesText (verdict_by (Some (Infer job)) held.file) (Ok s))
+infer_ran None job plan s gives text = tt
+infer_ran (Some held) job plan s gives text = rw (gives, text) refl
+
+pub infer_against : (told : Option Held) (job : List ℕ) (c : Cause)
+    → IfSome told (λ held. Gives (plan_in held.file job) (Err c))
+    → IfSome told (λ held. GivesText (verdict_by (Some (Infer job)) held.file) (Err c))
+infer_against None job c gives = tt
+infer_against (Some held) job c (inl e) = inl (rw e refl)
+infer_against (Some held) job c (inr free) = inr free

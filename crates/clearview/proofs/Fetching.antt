@@ -1,14 +1,15 @@
 -- What the bytes of a file say of its image and its job.
-use Rattle.std.proofs.Common.{◌≡◌, ℕ, List, Option, Some, None, Result, Ok, Err, IfSome, arith, inl, inr}
+use Rattle.std.proofs.Common.{◌≡◌, ℕ, List, Option, Some, None, Result, Ok, Err, IfSome, arith, inl, inr, ap, sym, refl, ◌∙◌, subst}
 use Rattle.std.proofs.lemmas.Bool.Decides.{nat_tests}
 use Rattle.cv_base.specs.Picture.{Picture}
-use Rattle.cv_edge.specs.Edge.{Held}
-use Rattle.cv_job.specs.JobOf.{JobOf}
+use Rattle.cv_base.specs.PlanOf.{PlanOf}
+use Rattle.cv_edge.specs.Edge.{Held, FetchesOnce}
+use Rattle.cv_job.specs.JobOf.{JobOf, plan_of}
 use Rattle.cv_job.specs.Reading.{reading_of}
 use Rattle.clearview.specs.declared.cause.Cause.{Cause}
 use Rattle.clearview.specs.declared.cause.Cause.TheVariants as cause
-use Rattle.clearview.specs.Gives.{Gives, bytes_in}
-use Rattle.clearview.specs.Verdict.{image_in, image_reading, job_in, refused}
+use Rattle.clearview.specs.Gives.{Gives, bytes_in, plan_by}
+use Rattle.clearview.specs.Verdict.{image_in, image_reading, job_in, plan_in, refused}
 
 image_whole : (file : Option (List ℕ)) (bytes : List ℕ) → bytes_in 4194304 cause.ImageLong file ≡ Ok bytes
     → image_in file ≡ refused (λ f. cause.ImageRefused f) (image_reading bytes)
@@ -57,3 +58,41 @@ pub job_unread : (told : Option Held) (name : List ℕ) (c : Cause)
 job_unread None name c against = tt
 job_unread (Some held) name c (inl e) = inl (job_against (held.file name) c e)
 job_unread (Some held) name c (inr free) = inr free
+
+-- ---- plans
+
+pub plan_made : (told : Option Held) (order : JobOf) (picture : Picture) (plan : PlanOf)
+    → IfSome told (λ held. Gives (image_in (held.file order.image)) (Ok picture))
+    → plan ≡ plan_of order picture
+    → IfSome told (λ held. Gives (plan_by order held.file) (Ok plan))
+plan_made None order picture plan gives e = tt
+plan_made (Some held) order picture plan gives e = rw (gives, e) refl
+
+pub plan_against : (told : Option Held) (order : JobOf) (c : Cause)
+    → IfSome told (λ held. Gives (image_in (held.file order.image)) (Err c))
+    → IfSome told (λ held. Gives (plan_by order held.file) (Err c))
+plan_against None order c gives = tt
+plan_against (Some held) order c (inl e) = inl (rw e refl)
+plan_against (Some held) order c (inr free) = inr free
+
+plan_of_job : (file : List ℕ → Option (List ℕ)) (job : List ℕ) (order : JobOf) → job_in (file job) ≡ Ok order
+    → plan_in file job ≡ plan_by order file
+plan_of_job file job order e = rw e refl
+
+pub plan_went_on : (told left : Option Held) (job : List ℕ) (order : JobOf) (r : Result PlanOf Cause)
+    → FetchesOnce told left
+    → IfSome told (λ held. Gives (job_in (held.file job)) (Ok order))
+    → IfSome left (λ held. Gives (plan_by order held.file) r)
+    → IfSome told (λ held. Gives (plan_in held.file job) r)
+plan_went_on None left job order r once gives made = tt
+plan_went_on (Some held) None job order r once gives made = absurd once
+plan_went_on (Some held) (Some later) job order r once gives made =
+    let e = plan_of_job held.file job order gives ∙ ap (plan_by order) (sym once.same) in
+    subst (λ (v : Result PlanOf Cause). Gives v r) (sym e) made
+
+pub plan_stopped : (told : Option Held) (job : List ℕ) (c : Cause)
+    → IfSome told (λ held. Gives (job_in (held.file job)) (Err c))
+    → IfSome told (λ held. Gives (plan_in held.file job) (Err c))
+plan_stopped None job c gives = tt
+plan_stopped (Some held) job c (inl e) = inl (rw e refl)
+plan_stopped (Some held) job c (inr free) = inr free

@@ -6,8 +6,8 @@ use Rattle.std.specs.Prelude.{string_bytes}
 use Rattle.std.specs.declared.string.String.{String}
 use Rattle.std.specs.declared.alloc.Global.{Global}
 use Rattle.cv_base.specs.Picture.{Picture}
+use Rattle.cv_base.specs.PlanOf.{PlanOf}
 use Rattle.cv_job.specs.JobOf.{JobOf, plan_of}
-use Rattle.clearview.specs.CheckText.{check_text}
 use Rattle.clearview.specs.Causes.{IsFree}
 use Rattle.clearview.specs.Verdict.{Verdict, and_then, image_in}
 
@@ -20,9 +20,9 @@ abbrev pub GivesText : Verdict → Result (String Global) Cause → Type 0
 GivesText wanted (Ok s) = wanted ≡ Ok (string_bytes s)
 GivesText wanted (Err c) = (wanted ≡ Err c) ⊎ IsFree c
 
--- what `check` has to come to, once the job is read
-abbrev pub check_by : JobOf → (List ℕ → Option (List ℕ)) → Verdict
-check_by job file = and_then (image_in (file job.image)) (λ (picture : Picture). Ok (check_text (plan_of job picture)))
+-- the plan of a job that is read
+abbrev pub plan_by : JobOf → (List ℕ → Option (List ℕ)) → Result PlanOf Cause
+plan_by job file = and_then (image_in (file job.image)) (λ (picture : Picture). Ok (plan_of job picture))
 
 -- the bytes of a file of at most `limit` bytes
 abbrev pub bytes_in : ℕ → Cause → Option (List ℕ) → Result (List ℕ) Cause

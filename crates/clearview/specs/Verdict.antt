@@ -10,10 +10,12 @@ use Rattle.cv_job.specs.declared.job.JobFault.{JobFault}
 use Rattle.cv_job.specs.JobOf.{JobOf, plan_of}
 use Rattle.cv_job.specs.Reading.{reading_of}
 use Rattle.cv_runs.specs.PlainText.{plain_text}
+use Rattle.cv_base.specs.PlanOf.{PlanOf}
+use Rattle.cv_histories.specs.OtherTexts.{infer_text}
 use Rattle.clearview.specs.CheckText.{check_text}
 use Rattle.clearview.specs.declared.cause.Cause.{Cause}
 use Rattle.clearview.specs.declared.cause.Cause.TheVariants as cause
-use Rattle.clearview.specs.Words.{Command, Plain, Check, command_of}
+use Rattle.clearview.specs.Words.{Command, Plain, Check, Infer, command_of}
 
 abbrev pub Verdict : Type 0
 Verdict = Result (List ℕ) Cause
@@ -46,13 +48,18 @@ job_in (Some bytes) =
     if nat_lt 16777216 (length bytes) then Err cause.JobLong
     else refused (λ f. cause.JobRefused f) (reading_of bytes)
 
+-- the plan of a job's file and its image's file
+abbrev pub plan_in : (List ℕ → Option (List ℕ)) → List ℕ → Result PlanOf Cause
+plan_in file job =
+    and_then (job_in (file job)) (λ (order : JobOf).
+    and_then (image_in (file order.image)) (λ (picture : Picture). Ok (plan_of order picture)))
+
 abbrev pub verdict_by : Option Command → (List ℕ → Option (List ℕ)) → Verdict
 verdict_by None file = Err cause.Usage
 verdict_by (Some (Plain image budget input)) file =
     and_then (image_in (file image)) (λ (picture : Picture). Ok (plain_text picture input budget))
-verdict_by (Some (Check job)) file =
-    and_then (job_in (file job)) (λ (order : JobOf).
-    and_then (image_in (file order.image)) (λ (picture : Picture). Ok (check_text (plan_of order picture))))
+verdict_by (Some (Check job)) file = and_then (plan_in file job) (λ (plan : PlanOf). Ok (check_text plan))
+verdict_by (Some (Infer job)) file = and_then (plan_in file job) (λ (plan : PlanOf). Ok (infer_text plan))
 
 abbrev pub verdict_of : List (List ℕ) → (List ℕ → Option (List ℕ)) → Verdict
 verdict_of words file = verdict_by (command_of words) file

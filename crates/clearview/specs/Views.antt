@@ -2,8 +2,9 @@
 use Rattle.std.specs.Prelude.{ℕ, List}
 use Rattle.clearview.specs.declared.words.Command.{Command as Reading}
 use Rattle.clearview.specs.declared.words.Command.TheVariants as reading
-use Rattle.clearview.specs.Words.{Command, Plain, Check}
+use Rattle.clearview.specs.Words.{Command, Plain, Check, Infer}
 
 abbrev pub command_view : Reading → Command
 command_view (reading.Plain image budget input) = Plain image.now budget input
 command_view (reading.Check job) = Check job.now
+command_view (reading.Infer job) = Infer job.now

@@ -9,6 +9,7 @@ use Rattle.cv_job.specs.Fields.{within}
 pub data Command : Type 0 where
   Plain : List ℕ → ℕ → List ℕ → Command  -- image's name, budget, input
   Check : List ℕ → Command  -- job's name
+  Infer : List ℕ → Command  -- job's name
 
 -- a file's name: not empty, and does not begin with `-`
 abbrev pub is_name : List ℕ → Bool
@@ -41,8 +42,16 @@ plain_of image budget input =
     then option_and_then (λ n. option_map (λ bytes. Plain image n bytes) (input_of input)) (budget_of budget)
     else None
 
+-- the commands on a job
+abbrev pub job_command : List ℕ → List ℕ → Option Command
+job_command name job =
+    if not (is_name job) then None
+    else if bytes_eq name (codes "check") then Some (Check job)
+    else if bytes_eq name (codes "infer") then Some (Infer job)
+    else None
+
 abbrev pub command_of : List (List ℕ) → Option Command
-command_of (name ∷ job ∷ []) = if bytes_eq name (codes "check") && is_name job then Some (Check job) else None
+command_of (name ∷ job ∷ []) = job_command name job
 command_of (name ∷ image ∷ budget ∷ input ∷ []) = if bytes_eq name (codes "plain") then plain_of image budget input else None
 command_of _ = None
 
@@ -51,8 +60,10 @@ abbrev pub files_named : Option Command → ℕ
 files_named None = 0
 files_named (Some (Plain image budget input)) = 1
 files_named (Some (Check job)) = 2
+files_named (Some (Infer job)) = 2
 
 -- an input has at most 65,536 bytes
 abbrev pub IsShort : Command → Type 0
 IsShort (Plain image budget input) = length input ≤ 65536
 IsShort (Check job) = Unit {0}
+IsShort (Infer job) = Unit {0}

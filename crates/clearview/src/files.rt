@@ -1,11 +1,11 @@
 ghost use Rattle.std.specs.Prelude.{◌≡◌, ◌≢◌, IfErr, IfSome, IsErrOf};
-ghost use Rattle.cv_edge.specs.Edge.{FetchesOnce, HasCause};
-ghost use Rattle.clearview.specs.Gives.{Gives, IsEarly, bytes_in};
-ghost use Rattle.clearview.specs.Verdict.{image_in, image_reading, job_in, refused};
+ghost use Rattle.cv_edge.specs.Edge.{FetchesOnce, FetchesUpTo, HasCause};
+ghost use Rattle.clearview.specs.Gives.{Gives, IsEarly, bytes_in, plan_by};
+ghost use Rattle.clearview.specs.Verdict.{image_in, image_reading, job_in, plan_in, refused};
 ghost use Rattle.clearview.specs.declared.cause.Cause.TheVariants as cause;
 
 use crate::cause::Cause;
-use cv_base::{Image, Items};
+use cv_base::{Image, Items, Plan};
 use cv_edge::{Fetched, Store};
 use cv_elf::elf;
 use cv_image::flat;
@@ -17,6 +17,31 @@ const IMAGE_LIMIT: u32 = 4_194_304;
 
 /// The most bytes that a job's file may have.
 const JOB_LIMIT: u32 = 16_777_216;
+
+/// The plan of the job that a file holds, with the image that the job names, or the cause against
+/// it (docs/FORMATS.md, "Causes and statuses"). It fetches the job, and then the image.
+#[tactic(auto, using(crate::proofs::Fetching::plan_went_on, crate::proofs::Fetching::plan_stopped, crate::proofs::Commands::fetches_more, crate::proofs::Commands::fetches_twice))]
+pub fn plan_of<S: Store>(alloc: Global, store: &mut S, name: &str) -> Result<Plan, Cause>
+    ensures gives { IfSome (S.told store.old) (λ held. Gives (plan_in held.file name.now) result) }
+    ensures early { IfErr result IsEarly }
+    ensures fault { HasCause (S.faults store.old) (S.faults store.new) (IsErrOf result Cause.StoreFault) }
+    ensures fetches { FetchesUpTo 2 (S.told store.old) (S.told store.new) }
+{
+    let job = job_of(alloc, store, name)?;
+    job_plan(alloc, store, job)
+}
+
+/// The plan of a job, whose image is fetched by its name, or the cause against it.
+#[tactic(auto, using(crate::proofs::Fetching::plan_made, crate::proofs::Fetching::plan_against))]
+fn job_plan<S: Store>(alloc: Global, store: &mut S, job: Job) -> Result<Plan, Cause>
+    ensures gives { IfSome (S.told store.old) (λ held. Gives (plan_by job held.file) result) }
+    ensures early { IfErr result IsEarly }
+    ensures fault { HasCause (S.faults store.old) (S.faults store.new) (IsErrOf result Cause.StoreFault) }
+    ensures fetches { FetchesOnce (S.told store.old) (S.told store.new) }
+{
+    let image = image_of(alloc, store, job.image.as_str())?;
+    Ok(job.into_plan(image))
+}
 
 /// The image that a file holds, or the cause against it (docs/FORMATS.md, "Causes and statuses").
 /// It fetches once.

@@ -5,6 +5,7 @@
 
 mod cause;
 mod files;
+mod infer;
 mod plain;
 #[cfg(test)]
 mod tests;

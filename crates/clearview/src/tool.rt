@@ -1,18 +1,18 @@
 ghost use Rattle.std.specs.Prelude.{◌≡◌, ◌≢◌, ◌⊎◌, ◌↔◌, ◌≤◌, Ok, Some, None, length, map, string_bytes, IfErr, IfSome, IsErrOf};
 ghost use Rattle.cv_edge.specs.Edge.{FetchesOnce, FetchesUpTo, HasCause, Rose};
 ghost use Rattle.clearview.specs.Causes.{status_of, Completes, Ends, Writes, Silent};
-ghost use Rattle.clearview.specs.Gives.{GivesText, IsEarly, check_by};
+ghost use Rattle.clearview.specs.Gives.{GivesText, IsEarly};
 ghost use Rattle.clearview.specs.Verdict.{verdict_of, verdict_by};
 ghost use Rattle.clearview.specs.Views.{command_view};
-ghost use Rattle.clearview.specs.Words.{command_of, files_named, IsShort, Plain, Check};
+ghost use Rattle.clearview.specs.Words.{command_of, files_named, IsShort, Plain, Check, Infer};
 
 use crate::cause::{Cause, Finish};
-use crate::files::{image_of, job_of};
+use crate::files::{image_of, plan_of};
+use crate::infer::infer_text;
 use crate::plain::plain_text;
 use crate::texts::check_text;
 use crate::words::{Command, read};
 use cv_edge::{Failed, Sink, Store, write_all};
-use cv_job::Job;
 use std::alloc::Global;
 
 /// Does the command that words are: fetches the files that it names, and writes its text whole
@@ -89,6 +89,7 @@ fn command_text<S: Store>(
             input,
         } => plain(alloc, store, image, *budget, input.as_slice()),
         Command::Check { job } => check(alloc, store, job),
+        Command::Infer { job } => infer(alloc, store, job),
     }
 }
 
@@ -110,26 +111,24 @@ fn plain<S: Store>(
     Ok(plain_text(alloc, &image, input, budget)?)
 }
 
-#[tactic(auto, using(crate::proofs::Commands::check_went_on, crate::proofs::Commands::check_stopped, crate::proofs::Commands::fetches_more, crate::proofs::Commands::fetches_twice))]
+#[tactic(auto, using(crate::proofs::Commands::check_ran, crate::proofs::Commands::check_against))]
 fn check<S: Store>(alloc: Global, store: &mut S, job: &str) -> Result<String, Cause>
     ensures gives { IfSome (S.told store.old) (λ held. GivesText (verdict_by (Some (Check job.now)) held.file) result) }
     ensures early { IfErr result IsEarly }
     ensures fault { HasCause (S.faults store.old) (S.faults store.new) (IsErrOf result Cause.StoreFault) }
     ensures fetches { FetchesUpTo 2 (S.told store.old) (S.told store.new) }
 {
-    let job = job_of(alloc, store, job)?;
-    check_job(alloc, store, job)
+    let plan = plan_of(alloc, store, job)?;
+    Ok(check_text(alloc, &plan)?)
 }
 
-/// What `check` writes of a job, whose image is fetched by its name.
-#[tactic(auto, using(crate::proofs::Commands::check_ran, crate::proofs::Commands::check_against))]
-fn check_job<S: Store>(alloc: Global, store: &mut S, job: Job) -> Result<String, Cause>
-    ensures gives { IfSome (S.told store.old) (λ held. GivesText (check_by job held.file) result) }
+#[tactic(auto, using(crate::proofs::Commands::infer_ran, crate::proofs::Commands::infer_against))]
+fn infer<S: Store>(alloc: Global, store: &mut S, job: &str) -> Result<String, Cause>
+    ensures gives { IfSome (S.told store.old) (λ held. GivesText (verdict_by (Some (Infer job.now)) held.file) result) }
     ensures early { IfErr result IsEarly }
     ensures fault { HasCause (S.faults store.old) (S.faults store.new) (IsErrOf result Cause.StoreFault) }
-    ensures fetches { FetchesOnce (S.told store.old) (S.told store.new) }
+    ensures fetches { FetchesUpTo 2 (S.told store.old) (S.told store.new) }
 {
-    let image = image_of(alloc, store, job.image.as_str())?;
-    let plan = job.into_plan(image);
-    Ok(check_text(alloc, &plan)?)
+    let plan = plan_of(alloc, store, job)?;
+    Ok(infer_text(alloc, &plan)?)
 }

@@ -2,7 +2,7 @@ ghost use Rattle.std.specs.Prelude.{◌≡◌, ◌↔◌, ◌≤◌, ℕ, List, 
 ghost use Rattle.std.specs.Char.{is_ascii_hexdigit};
 ghost use Rattle.std.specs.List.{list_all};
 ghost use Rattle.std.specs.Option.{option_map};
-ghost use Rattle.clearview.specs.Words.{command_of, IsShort, plain_of, is_digit, is_name, number_from, budget_of, input_of};
+ghost use Rattle.clearview.specs.Words.{command_of, IsShort, job_command, plain_of, is_digit, is_name, number_from, budget_of, input_of};
 ghost use Rattle.clearview.specs.Views.{command_view};
 
 use cv_base::{Items, NoMemory};
@@ -29,6 +29,10 @@ pub enum Command<'a> {
     Check {
         job: &'a str,
     },
+    /// To learn from a job's learn runs.
+    Infer {
+        job: &'a str,
+    },
 }
 
 /// The command that words are; None where they are none (docs/FORMATS.md, "Words"). Memory is
@@ -39,12 +43,7 @@ pub fn read<'a>(alloc: Global, words: &'a [String]) -> Result<Option<Command<'a>
     ensures memory { IsErr result → IsSome (command_of (map string_bytes words.now)) }
 {
     match words {
-        [name, job] => {
-            if name.as_str() == "check" && is_name(job.as_str()) {
-                return Ok(Some(Command::Check { job: job.as_str() }));
-            }
-            Ok(None)
-        }
+        [name, job] => Ok(job_command(name.as_str(), job.as_str())),
         [name, image, budget, input] => {
             if name.as_str() == "plain" {
                 return read_plain(alloc, image.as_str(), budget.as_str(), input.as_str());
@@ -52,6 +51,20 @@ pub fn read<'a>(alloc: Global, words: &'a [String]) -> Result<Option<Command<'a>
             Ok(None)
         }
         _ => Ok(None),
+    }
+}
+
+fn job_command<'a>(name: &str, job: &'a str) -> Option<Command<'a>>
+    ensures value { option_map command_view result ≡ job_command name.now job.now }
+    ensures short { IfSome result (λ c. IsShort (command_view c)) }
+{
+    if !is_name(job) {
+        return None;
+    }
+    match name {
+        "check" => Some(Command::Check { job }),
+        "infer" => Some(Command::Infer { job }),
+        _ => None,
     }
 }
 

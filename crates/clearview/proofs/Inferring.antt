@@ -1,0 +1,88 @@
+-- What is learned of the runs of a plan, one after another.
+use Rattle.std.proofs.Common.{◌≡◌, ◌<◌, ◌≤◌, ℕ, zero, suc, ◌+◌, ◌-◌, List, [], ◌∷◌, ◌++◌, length, take, drop, get_or, map, Option, Some, refl, sym, ap, ◌∙◌, arith, add-one, drop-cons, length-append, append_assoc, subst}
+use Rattle.std.specs.Prelude.{slice_get, option_map}
+use Rattle.std.specs.List.{flat_map}
+use Rattle.std.proofs.Math.Nat.{sub-zero}
+use Rattle.std.proofs.lemmas.List.Sums.{sum_by-cons}
+use Rattle.std.proofs.lemmas.List.{append-nil, take_all, length-map}
+use Rattle.cv_base.specs.declared.entries.Observation.{Observation}
+use Rattle.cv_base.specs.declared.plan.Mode.{Mode}
+use Rattle.cv_base.specs.declared.plan.Round.{Round}
+use Rattle.cv_base.specs.PlanOf.{PlanOf, runs_of}
+use Rattle.cv_histories.specs.OtherTexts.{seen_in_learn_run}
+use Rattle.cv_histories.specs.Runs.{Run, runs, runs_from}
+use Rattle.cv_observe.specs.StandsFor.{StandsFor, SummaryOf}
+use Rattle.clearview.specs.Inferring.{seen_of, seen_in_run_at}
+
+-- ---- the runs of a plan by their numbers
+
+abbrev run_with : ℕ → Mode → List ℕ → Run
+run_with n mode input = record { round = n; mode = mode; input = input }
+
+count_from : (n : ℕ) (rounds : List Round) → length (runs_from n rounds) ≡ runs_of rounds
+count_from n [] = refl
+count_from n (r ∷ rs) =
+    let rest = count_from (n + 1) rs in
+    length-append (map (λ (input : List ℕ). run_with n r.mode input) r.inputs) (runs_from (n + 1) rs) ∙ rw (length-map, rest) (sym (sum_by-cons (λ (x : Round). length x.inputs) r rs))
+
+pub count : (plan : PlanOf) (rounds : List Round) → rounds ≡ plan.rounds → runs_of rounds ≡ length (runs plan)
+count plan rounds same = sym (count_from 0 rounds) ∙ ap (λ rs. length (runs_from 0 rs)) same
+
+here : (n left : ℕ) (mode : Mode) (inputs : List (List ℕ)) (rest : List Run) → left < length inputs
+    → option_map (λ (r : Run). r.mode) (slice_get (map (λ (input : List ℕ). run_with n mode input) inputs ++ rest) left) ≡ Some mode
+here n left mode [] rest h = absurd (omega arith)
+here n zero mode (i ∷ is) rest h = refl
+here n (suc left) mode (i ∷ is) rest h = here n left mode is rest (omega arith)
+
+behind : (n left : ℕ) (mode : Mode) (inputs : List (List ℕ)) (rest : List Run) → length inputs ≤ left
+    → slice_get (map (λ (input : List ℕ). run_with n mode input) inputs ++ rest) left ≡ slice_get rest (left - length inputs)
+behind n left mode [] rest h = rw sub-zero refl
+behind n zero mode (i ∷ is) rest h = absurd (omega arith)
+behind n (suc left) mode (i ∷ is) rest h = behind n left mode is rest (omega arith) ∙ ap (λ k. slice_get rest k) (omega arith)
+
+opened : (rounds : List Round) (k : ℕ) (r : Round) → k < length rounds → r ≡ get_or rounds k r
+    → runs_from k (drop k rounds) ≡ map (λ (input : List ℕ). run_with k r.mode input) r.inputs ++ runs_from (k + 1) (drop (k + 1) rounds)
+opened rounds k r h is =
+    let next : suc k ≡ k + 1 = omega arith in
+    ap (runs_from k) (drop-cons rounds k r h)
+    ∙ ap (λ (x : Round). map (λ (input : List ℕ). run_with k x.mode input) x.inputs ++ runs_from (k + 1) (drop (suc k) rounds)) (sym is)
+    ∙ ap (λ j. map (λ (input : List ℕ). run_with k r.mode input) r.inputs ++ runs_from (k + 1) (drop j rounds)) next
+
+-- the run lies in the round r
+pub found : (rounds : List Round) (number k left : ℕ) (r : Round) → k < length rounds → r ≡ get_or rounds k r
+    → slice_get (runs_from k (drop k rounds)) left ≡ slice_get (runs_from 0 rounds) number → left < length r.inputs
+    → option_map (λ (run : Run). run.mode) (slice_get (runs_from 0 rounds) number) ≡ Some r.mode
+found rounds number k left r h is so_far below =
+    ap (option_map (λ (run : Run). run.mode)) (sym so_far ∙ ap (λ l. slice_get l left) (opened rounds k r h is))
+    ∙ here k left r.mode r.inputs (runs_from (k + 1) (drop (k + 1) rounds)) below
+
+-- the run lies behind the round r
+pub passed : (rounds : List Round) (number k left : ℕ) (r : Round) → k < length rounds → r ≡ get_or rounds k r
+    → slice_get (runs_from k (drop k rounds)) left ≡ slice_get (runs_from 0 rounds) number → length r.inputs ≤ left
+    → slice_get (runs_from (k + 1) (drop (k + 1) rounds)) (left - length r.inputs) ≡ slice_get (runs_from 0 rounds) number
+passed rounds number k left r h is so_far above =
+    sym (behind k left r.mode r.inputs (runs_from (k + 1) (drop (k + 1) rounds)) above)
+    ∙ ap (λ l. slice_get l left) (sym (opened rounds k r h is)) ∙ so_far
+
+-- ---- what is seen in them
+
+more : (plan : PlanOf) (rs : List Run) (k : ℕ)
+    → flat_map (seen_in_learn_run plan) (take (suc k) rs) ≡ flat_map (seen_in_learn_run plan) (take k rs) ++ seen_of plan (slice_get rs k)
+more plan [] zero = refl
+more plan [] (suc k) = refl
+more plan (r ∷ rs) zero = append-nil (seen_in_learn_run plan r)
+more plan (r ∷ rs) (suc k) = ap (λ l. seen_in_learn_run plan r ++ l) (more plan rs k) ∙ sym (append_assoc (seen_in_learn_run plan r) _ _)
+
+pub one_more : (plan : PlanOf) (k : ℕ) (old new : SummaryOf)
+    → StandsFor old (flat_map (seen_in_learn_run plan) (take k (runs plan)))
+    → ((seen : List Observation) → StandsFor old seen → StandsFor new (seen ++ seen_in_run_at plan k))
+    → StandsFor new (flat_map (seen_in_learn_run plan) (take (k + 1) (runs plan)))
+one_more plan k old new before added =
+    rw add-one (subst (λ l. StandsFor new l) (sym (more plan (runs plan) k)) (added _ before))
+
+pub all_runs : (plan : PlanOf) (n : ℕ) (s : SummaryOf) → n ≡ length (runs plan)
+    → StandsFor s (flat_map (seen_in_learn_run plan) (take n (runs plan)))
+    → StandsFor s (flat_map (seen_in_learn_run plan) (runs plan))
+all_runs plan n s e stands =
+    let within : length (runs plan) ≤ n = omega arith in
+    subst (λ l. StandsFor s (flat_map (seen_in_learn_run plan) l)) (take_all n (runs plan) within) stands
