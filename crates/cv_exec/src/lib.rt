@@ -11,6 +11,3 @@ mod turns;
 pub use arena::Arena;
 pub use plans::SharedPlan;
 pub use record::Record;
-
-#[cfg(test)]
-mod tests;
