@@ -1,5 +1,3 @@
-ghost use Rattle.std.specs.Prelude.{◌≡◌, IfOk, vec_len};
-
 use crate::cause::Cause;
 use crate::tool::tool;
 use cv_base::{ImageFault, NoMemory};
@@ -360,16 +358,9 @@ fn other_words_are_no_command(rt: HostRuntime) -> Result<(), Fail> {
 
 #[test]
 fn files_are_refused_by_cause(rt: HostRuntime) -> Result<(), Fail> {
-    let zeros = zeros(rt.alloc(), 16_777_217)?;
-    assert_eq!(rt; zeros.len(), 16_777_217);
     let mut store = MemStore::make(rt.alloc());
     store.put("empty", b"")?;
-    store.put("six", &zeros[..6])?;
-    store.put("text-long", &zeros[..262_148])?;
-    store.put("longest-image", &zeros[..4_194_304])?;
-    store.put("long-image", &zeros[..4_194_305])?;
-    store.put("longest-job", &zeros[..16_777_216])?;
-    store.put("long-job", zeros.as_slice())?;
+    store.put("six", &[0; 6])?;
     store.put("open", b"{")?;
     store.put("list", b"[]")?;
     store.put("workers", br#"{"image":"p.bin","workers":0}"#)?;
@@ -379,32 +370,12 @@ fn files_are_refused_by_cause(rt: HostRuntime) -> Result<(), Fail> {
     )?;
     store.put("many", many_runs(rt.alloc())?.as_bytes())?;
     store.put("sample", SAMPLE.as_bytes())?;
-    let rows: [(&str, &str, Cause, u8); 16] = [
+    let rows: [(&str, &str, Cause, u8); 11] = [
         ("plain", "empty", Cause::ImageRefused(ImageFault::Empty), 4),
         ("plain", "six", Cause::ImageRefused(ImageFault::NotWords), 4),
-        (
-            "plain",
-            "text-long",
-            Cause::ImageRefused(ImageFault::TextLong),
-            4,
-        ),
-        (
-            "plain",
-            "longest-image",
-            Cause::ImageRefused(ImageFault::TextLong),
-            4,
-        ),
-        ("plain", "long-image", Cause::ImageLong, 4),
         ("plain", "none", Cause::FileMissing, 12),
         ("check", "none", Cause::FileMissing, 12),
         ("check", "sample", Cause::FileMissing, 12),
-        (
-            "check",
-            "longest-job",
-            Cause::JobRefused(JobFault::NotJson),
-            3,
-        ),
-        ("check", "long-job", Cause::JobLong, 3),
         ("check", "empty", Cause::JobRefused(JobFault::NotJson), 3),
         ("check", "open", Cause::JobRefused(JobFault::NotJson), 3),
         ("check", "list", Cause::JobRefused(JobFault::NotObject), 3),
@@ -432,13 +403,6 @@ fn files_are_refused_by_cause(rt: HostRuntime) -> Result<(), Fail> {
         assert_eq!(rt; told.2.bytes().len(), 0);
     }
     Ok(())
-}
-
-/// So many bytes 0. The length is a parameter, since the prover would write a literal out as a list.
-fn zeros(alloc: Global, len: usize) -> Result<Vec<u8>, NoMemory>
-    ensures { IfOk result (λ bytes. vec_len bytes ≡ len) }
-{
-    Ok(vec![in alloc; 0u8; len]?)
 }
 
 /// A job with 1,025 inputs.
