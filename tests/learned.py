@@ -1,0 +1,59 @@
+#!/usr/bin/env python3
+"""learned.py PROGRAM: what `infer` writes of a few programs, worked out by hand from docs/REPAIR.md.
+The last line is `N passed, M failed`; the status is 1 where a case failed."""
+import json
+import os
+import struct
+import subprocess
+import sys
+import tempfile
+
+# reads an address and calls it
+CALLING = [0x00000513, 0xff010593, 0x00400613, 0x03f00893, 0x00000073, 0xff012303, 0x000300e7,
+           0x05d00893, 0x00000073, 0x00700513, 0x00008067, 0x00900513, 0x00008067]
+# reads a word into x6, moves it to x10 and exits
+MOVING = [0x00000513, 0xff010593, 0x00400613, 0x03f00893, 0x00000073, 0xff012303, 0x00030513,
+          0x05d00893, 0x00000073]
+FOUR = ['01000000', '02000000', '03000000', '04000000']
+
+# words, learn inputs, the last line (None: any), lines that stand there, lines that do not
+CASES = [
+    (CALLING, ['24000100', '2C000100'], 'learned 43',
+     ['one-of 00010018 x6 00010024,0001002C', 'less-than 00010018 x6 x2', 'sp-offset 00010018 00000000'], []),
+    # the third run fails, and adds nothing
+    (CALLING, ['24000100', '2C000100', '00000000'], 'learned 43',
+     ['one-of 00010018 x6 00010024,0001002C'], []),
+    (CALLING, ['00000000'], 'learned 0', [], ['sp-offset 00010000 00000000']),
+    (MOVING, FOUR, None, ['one-of 00010018 x6 00000001,00000002,00000003,00000004'], []),
+    # a fifth value: the least, as a signed number
+    (MOVING, FOUR + ['FFFFFFFF'], None, ['lower 00010018 x6 FFFFFFFF'],
+     ['one-of 00010018 x6 00000001,00000002,00000003,00000004']),
+]
+
+
+def main():
+    program = os.path.abspath(sys.argv[1])
+    failed = 0
+    for words, inputs, last, there, absent in CASES:
+        job = {'image': 'image.bin', 'workers': 1, 'checks': 2, 'budget': 1000,
+               'rounds': [{'mode': 'learn', 'inputs': inputs}]}
+        with tempfile.TemporaryDirectory() as place:
+            with open(os.path.join(place, 'image.bin'), 'wb') as file:
+                file.write(struct.pack(f'<{len(words)}I', *words))
+            with open(os.path.join(place, 'job.json'), 'w', encoding='utf-8') as file:
+                json.dump(job, file)
+            done = subprocess.run([program, 'infer', 'job.json'], cwd=place,
+                                  capture_output=True, text=True, timeout=60)
+        lines = done.stdout.splitlines()
+        told = (done.returncode == 0 and (last is None or lines[-1] == last)
+                and all(lines.count(line) == 1 for line in there)
+                and not any(line in lines for line in absent))
+        if not told:
+            failed += 1
+            print(f'{inputs}: {done}')
+    print(f'{len(CASES) - failed} passed, {failed} failed')
+    return 1 if failed else 0
+
+
+if __name__ == '__main__':
+    sys.exit(main())
