@@ -2,7 +2,6 @@ use crate::cause::Cause;
 use crate::tool::tool;
 use cv_base::{ImageFault, NoMemory};
 use cv_edge::{MemSink, MemStore};
-use cv_job::{JobFault, JobField};
 use std::alloc::Global;
 use std::test::Fail;
 
@@ -348,68 +347,6 @@ fn other_words_are_no_command(rt: HostRuntime) -> Result<(), Fail> {
         assert_eq!(rt; sink.bytes().len(), 0);
     }
     Ok(())
-}
-
-#[test]
-fn files_are_refused_by_cause(rt: HostRuntime) -> Result<(), Fail> {
-    let mut store = MemStore::make(rt.alloc());
-    store.put("empty", b"")?;
-    store.put("six", &[0; 6])?;
-    store.put("open", b"{")?;
-    store.put("list", b"[]")?;
-    store.put("workers", br#"{"image":"p.bin","workers":0}"#)?;
-    store.put(
-        "input",
-        br#"{"image":"p.bin","workers":1,"checks":2,"budget":1,"rounds":[{"mode":"live","inputs":["2"]}]}"#,
-    )?;
-    store.put("many", many_runs(rt.alloc())?.as_bytes())?;
-    store.put("sample", SAMPLE.as_bytes())?;
-    let rows: [(&str, &str, Cause, u8); 11] = [
-        ("plain", "empty", Cause::ImageRefused(ImageFault::Empty), 4),
-        ("plain", "six", Cause::ImageRefused(ImageFault::NotWords), 4),
-        ("plain", "none", Cause::FileMissing, 12),
-        ("check", "none", Cause::FileMissing, 12),
-        ("check", "sample", Cause::FileMissing, 12),
-        ("check", "empty", Cause::JobRefused(JobFault::NotJson), 3),
-        ("check", "open", Cause::JobRefused(JobFault::NotJson), 3),
-        ("check", "list", Cause::JobRefused(JobFault::NotObject), 3),
-        (
-            "check",
-            "workers",
-            Cause::JobRefused(JobFault::Field(JobField::Workers)),
-            3,
-        ),
-        (
-            "check",
-            "input",
-            Cause::JobRefused(JobFault::Field(JobField::Rounds)),
-            3,
-        ),
-        ("check", "many", Cause::JobRefused(JobFault::TooManyRuns), 3),
-    ];
-    for (command, name, cause, status) in rows {
-        let told = if command == "plain" {
-            answer(rt.alloc(), &["plain", name, "1000", "none"], &mut store)?
-        } else {
-            answer(rt.alloc(), &["check", name], &mut store)?
-        };
-        assert_eq!(rt; (told.0, told.1), (cause, status), "{command} {name}");
-        assert_eq!(rt; told.2.bytes().len(), 0);
-    }
-    Ok(())
-}
-
-/// A job with 1,025 inputs.
-fn many_runs(alloc: Global) -> Result<String, NoMemory> {
-    let mut job = String::from_str(
-        alloc,
-        r#"{"image":"p.bin","workers":1,"checks":2,"budget":1,"rounds":[{"mode":"live","inputs":[""#,
-    )?;
-    for _ in 0..1024 {
-        job.push_str("\",\"")?;
-    }
-    job.push_str(r#""]}]}"#)?;
-    Ok(job)
 }
 
 #[test]
