@@ -2,11 +2,9 @@
 """learned.py PROGRAM: what `infer` writes of a few programs, worked out by hand from docs/REPAIR.md.
 The last line is `N passed, M failed`; the status is 1 where a case failed."""
 import json
-import os
 import struct
-import subprocess
-import sys
-import tempfile
+
+from program import ends, run
 
 # reads an address and calls it
 CALLING = [0x00000513, 0xff010593, 0x00400613, 0x03f00893, 0x00000073, 0xff012303, 0x000300e7,
@@ -32,18 +30,12 @@ CASES = [
 
 
 def main():
-    program = os.path.abspath(sys.argv[1])
     failed = 0
     for words, inputs, last, there, absent in CASES:
         job = {'image': 'image.bin', 'workers': 1, 'checks': 2, 'budget': 1000,
                'rounds': [{'mode': 'learn', 'inputs': inputs}]}
-        with tempfile.TemporaryDirectory() as place:
-            with open(os.path.join(place, 'image.bin'), 'wb') as file:
-                file.write(struct.pack(f'<{len(words)}I', *words))
-            with open(os.path.join(place, 'job.json'), 'w', encoding='utf-8') as file:
-                json.dump(job, file)
-            done = subprocess.run([program, 'infer', 'job.json'], cwd=place,
-                                  capture_output=True, text=True, timeout=60)
+        done = run(['infer', 'job.json'], {'image.bin': struct.pack(f'<{len(words)}I', *words),
+                                           'job.json': json.dumps(job).encode()})
         lines = done.stdout.splitlines()
         told = (done.returncode == 0 and (last is None or lines[-1] == last)
                 and all(lines.count(line) == 1 for line in there)
@@ -51,9 +43,8 @@ def main():
         if not told:
             failed += 1
             print(f'{inputs}: {done}')
-    print(f'{len(CASES) - failed} passed, {failed} failed')
-    return 1 if failed else 0
+    ends(len(CASES), failed)
 
 
 if __name__ == '__main__':
-    sys.exit(main())
+    main()

@@ -4,9 +4,8 @@ learn runs, on live rounds between them, or on runs that fail. The last line is
 `N passed, M failed`; the status is 1 where a case failed."""
 import json
 import os
-import subprocess
-import sys
-import tempfile
+
+from program import ends, run
 
 IMAGE = os.path.join(os.path.dirname(os.path.abspath(__file__)), '..', 'examples', 'calling.bin')
 A, B, BAD = '24000100', '2C000100', '00000000'
@@ -23,30 +22,22 @@ JOBS = [
 
 
 def main():
-    program = os.path.abspath(sys.argv[1])
     with open(IMAGE, 'rb') as file:
         image = file.read()
     texts = []
     for workers, rounds in [(w, r) for w in (1, 2, 16) for r in JOBS]:
         job = {'image': 'image.bin', 'workers': workers, 'checks': 2, 'budget': 1000,
                'rounds': [{'mode': mode, 'inputs': inputs} for mode, inputs in rounds]}
-        with tempfile.TemporaryDirectory() as place:
-            with open(os.path.join(place, 'image.bin'), 'wb') as file:
-                file.write(image)
-            with open(os.path.join(place, 'job.json'), 'w', encoding='utf-8') as file:
-                json.dump(job, file)
-            done = subprocess.run([program, 'infer', 'job.json'], cwd=place,
-                                  capture_output=True, text=True, timeout=60)
+        done = run(['infer', 'job.json'], {'image.bin': image, 'job.json': json.dumps(job).encode()})
         texts.append((rounds, done.returncode, done.stdout))
     wanted = texts[0][2]
-    failed = 0 if wanted.endswith('\nlearned 43\n') else 1
+    failed = 0
     for rounds, status, text in texts:
-        if (status, text) != (0, wanted):
+        if (status, text) != (0, wanted) or not text.endswith('\nlearned 43\n'):
             failed += 1
             print(f'{rounds}: status {status}, another text')
-    print(f'{len(texts) - failed} passed, {failed} failed')
-    return 1 if failed else 0
+    ends(len(texts), failed)
 
 
 if __name__ == '__main__':
-    sys.exit(main())
+    main()
