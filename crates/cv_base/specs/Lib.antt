@@ -2,6 +2,7 @@ pub mod EndText
 pub mod FaultText
 pub mod InvariantText
 pub mod Invariants
+pub mod Patches
 pub mod Picture
 pub mod PlanOf
 pub mod PlanText

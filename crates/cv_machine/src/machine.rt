@@ -1,4 +1,5 @@
 ghost use Rattle.std.specs.Prelude.{◌≡◌, ◌≤◌, [], length, map, IfOk, IsTrue, OnOk, OnErr};
+ghost use Rattle.std.specs.Borrow.{sem};
 ghost use Rattle.cv_base.specs.Picture.{is_point, word_at};
 ghost use Rattle.cv_base.specs.Registers.{with_register, zero_registers};
 ghost use Rattle.cv_isa.specs.DecodeTable.{meaning_of};
@@ -7,6 +8,7 @@ ghost use Rattle.cv_runs.specs.PlainTurn.{turn_of};
 ghost use Rattle.cv_runs.specs.State.{start_core, start_state, failed};
 ghost use Rattle.cv_machine.specs.Answers.{answer_of, left_by, told};
 ghost use Rattle.cv_machine.specs.Held.{state_of};
+ghost use Rattle.cv_machine.specs.Lending.{LendsCore};
 
 use crate::turn::{Turn, Went};
 use cv_base::{CrashCause, End, FailureId, FailureKind, Image, Items, NoMemory, Regs, STACK_END};
@@ -160,6 +162,14 @@ impl Machine {
         ensures { result.now ≡ self.now.core }
     {
         &self.core
+    }
+
+    /// The pc, the registers and the shadow stack, to be changed; nothing else of the machine is.
+    pub fn core_mut(&mut self) -> &mut Core
+        ensures* core { sem 𝓛 (LendsCore self.entry result) }
+        ensures value { result.now ≡ self.old.core }
+    {
+        &mut self.core
     }
 
     /// The bytes that the run has written, its first 16,384.
