@@ -1,0 +1,15 @@
+pub mod Answered
+pub mod Bumps
+pub mod Checks
+pub mod CountedRows
+pub mod DistinctKeys
+pub mod FiringNotes
+pub mod Firings
+pub mod InOrder
+pub mod Notes
+pub mod Ordered
+pub mod Restores
+pub mod Rising
+pub mod RowsByKey
+pub mod Standing
+pub mod Tallies
