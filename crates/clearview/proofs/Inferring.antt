@@ -28,42 +28,6 @@ count_from n (r ∷ rs) =
 pub count : (plan : PlanOf) (rounds : List Round) → rounds ≡ plan.rounds → runs_of rounds ≡ length (runs plan)
 count plan rounds same = sym (count_from 0 rounds) ∙ ap (λ rs. length (runs_from 0 rs)) same
 
-here : (n left : ℕ) (mode : Mode) (inputs : List (List ℕ)) (rest : List Run) → left < length inputs
-    → option_map (λ (r : Run). r.mode) (slice_get (map (λ (input : List ℕ). run_with n mode input) inputs ++ rest) left) ≡ Some mode
-here n left mode [] rest h = absurd (omega arith)
-here n zero mode (i ∷ is) rest h = refl
-here n (suc left) mode (i ∷ is) rest h = here n left mode is rest (omega arith)
-
-behind : (n left : ℕ) (mode : Mode) (inputs : List (List ℕ)) (rest : List Run) → length inputs ≤ left
-    → slice_get (map (λ (input : List ℕ). run_with n mode input) inputs ++ rest) left ≡ slice_get rest (left - length inputs)
-behind n left mode [] rest h = rw sub-zero refl
-behind n zero mode (i ∷ is) rest h = absurd (omega arith)
-behind n (suc left) mode (i ∷ is) rest h = behind n left mode is rest (omega arith) ∙ ap (λ k. slice_get rest k) (omega arith)
-
-opened : (rounds : List Round) (k : ℕ) (r : Round) → k < length rounds → r ≡ get_or rounds k r
-    → runs_from k (drop k rounds) ≡ map (λ (input : List ℕ). run_with k r.mode input) r.inputs ++ runs_from (k + 1) (drop (k + 1) rounds)
-opened rounds k r h is =
-    let next : suc k ≡ k + 1 = omega arith in
-    ap (runs_from k) (drop-cons rounds k r h)
-    ∙ ap (λ (x : Round). map (λ (input : List ℕ). run_with k x.mode input) x.inputs ++ runs_from (k + 1) (drop (suc k) rounds)) (sym is)
-    ∙ ap (λ j. map (λ (input : List ℕ). run_with k r.mode input) r.inputs ++ runs_from (k + 1) (drop j rounds)) next
-
--- the run lies in the round r
-pub found : (rounds : List Round) (number k left : ℕ) (r : Round) → k < length rounds → r ≡ get_or rounds k r
-    → slice_get (runs_from k (drop k rounds)) left ≡ slice_get (runs_from 0 rounds) number → left < length r.inputs
-    → option_map (λ (run : Run). run.mode) (slice_get (runs_from 0 rounds) number) ≡ Some r.mode
-found rounds number k left r h is so_far below =
-    ap (option_map (λ (run : Run). run.mode)) (sym so_far ∙ ap (λ l. slice_get l left) (opened rounds k r h is))
-    ∙ here k left r.mode r.inputs (runs_from (k + 1) (drop (k + 1) rounds)) below
-
--- the run lies behind the round r
-pub passed : (rounds : List Round) (number k left : ℕ) (r : Round) → k < length rounds → r ≡ get_or rounds k r
-    → slice_get (runs_from k (drop k rounds)) left ≡ slice_get (runs_from 0 rounds) number → length r.inputs ≤ left
-    → slice_get (runs_from (k + 1) (drop (k + 1) rounds)) (left - length r.inputs) ≡ slice_get (runs_from 0 rounds) number
-passed rounds number k left r h is so_far above =
-    sym (behind k left r.mode r.inputs (runs_from (k + 1) (drop (k + 1) rounds)) above)
-    ∙ ap (λ l. slice_get l left) (sym (opened rounds k r h is)) ∙ so_far
-
 -- ---- what is seen in them
 
 more : (plan : PlanOf) (rs : List Run) (k : ℕ)

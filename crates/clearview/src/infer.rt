@@ -12,7 +12,7 @@ ghost use Rattle.clearview.specs.Inferring.{seen_in_run_at};
 
 use cv_base::{End, Invariant, Items, Mode, NoMemory, Plan};
 use cv_blocks::TextMap;
-use cv_exec::Arena;
+use cv_exec::{Arena, mode_of};
 use cv_job::runs_in;
 use cv_observe::Summary;
 use std::alloc::Global;
@@ -89,22 +89,6 @@ fn runs_of(plan: &Plan) -> u32
     ensures worker { 0 < plan.now.workers }
 {
     runs_in(plan.rounds.as_slice())
-}
-
-/// The mode of a run of a plan, numbered from 0 through the rounds; None where there is no such
-/// run.
-fn mode_of(plan: &Plan, run: u32) -> Option<Mode>
-    ensures { result ≡ option_map (λ (r : Run). r.mode) (run_at plan.now run) }
-{
-    let mut left = run as usize;
-    for round in plan.rounds.as_slice() {
-        let count = round.inputs.len();
-        if left < count {
-            return Some(round.mode);
-        }
-        left -= count;
-    }
-    None
 }
 
 fn is_exit(end: End) -> bool

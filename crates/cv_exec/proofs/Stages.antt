@@ -1,38 +1,25 @@
--- A started run: at its start, after one more turn, and at its end.
-use Rattle.std.proofs.Common.{◌≡◌, ◌<◌, ◌≤◌, ◌+◌, ◌-◌, ℕ, suc, zero, Bool, true, false, List, [], ◌∷◌, ◌++◌, length, Option, Some, None, refl, sym, ap, ◌∙◌, arith, length-append}
-use Rattle.std.specs.Prelude.{◌==◌, is_some, option_map, IsSomeAnd}
+-- A started learn run: after one more turn, and at its end.
+use Rattle.std.proofs.Common.{◌≡◌, ◌<◌, ◌≤◌, ◌+◌, ◌-◌, false, List, [], ◌∷◌, ◌++◌, length, Option, Some, None, refl, sym, ap, ◌∙◌, arith, length-append}
+use Rattle.std.specs.Prelude.{◌==◌, is_some}
 use Rattle.std.proofs.lemmas.Bool.Decides.{nat_tests}
 use Rattle.std.proofs.lemmas.List.{map-append}
 use Rattle.cv_base.specs.declared.ends.End.{End}
 use Rattle.cv_base.specs.declared.entries.Observation.{Observation}
-use Rattle.cv_base.specs.declared.plan.Mode.TheVariants.{Learn}
+use Rattle.cv_base.specs.declared.plan.Mode.{Mode}
 use Rattle.cv_base.specs.PlanOf.{PlanOf}
+use Rattle.cv_exec.specs.ArenaOf.{Going, is_over, is_over_in, is_over_of, wants, wants_in, wants_of}
 use Rattle.cv_exec.specs.declared.arena.Started.{Started}
-use Rattle.cv_exec.specs.LearnRun.{IsLearnRun, steps_with, learn_steps}
-use Rattle.cv_exec.specs.RunEnds.{end_with, end_sites}
-use Rattle.cv_exec.specs.StandsAt.{GoesOn, IsOver, StandsAt, IsStarted}
-use Rattle.cv_exec.proofs.Turned.{turned, first, more_steps, few_steps}
-use Rattle.cv_histories.specs.Rows.{sites_in}
-use Rattle.cv_histories.specs.Runs.{Run, run_at}
+use Rattle.cv_exec.specs.LiveRun.{Span}
+use Rattle.cv_exec.specs.RunEnds.{end_with}
+use Rattle.cv_exec.specs.StandsAt.{GoesOn, IsOver, IsStarted}
+use Rattle.cv_exec.proofs.Turned.{turned, more_steps, few_steps}
 use Rattle.cv_machine.specs.Answers.{left_by}
 use Rattle.cv_machine.specs.Held.{Held, state_of}
 use Rattle.cv_observe.specs.StandsFor.{SummaryOf, StandsFor}
 use Rattle.cv_runs.specs.Learned.{seen_in, observations}
-use Rattle.cv_runs.specs.PlainRun.{Step, plain_run, end_of, state_left}
+use Rattle.cv_runs.specs.PlainRun.{Step, plain_run}
 use Rattle.cv_runs.specs.PlainTurn.{turn_of}
 use Rattle.cv_runs.specs.State.{start_state}
-
-begins_with : (plan : PlanOf) (o : Option Run) → 1 ≤ plan.budget → IsSomeAnd o (λ (r : Run). r.mode ≡ Learn) → 0 < length (steps_with plan o)
-begins_with plan None some learns = absurd learns
-begins_with plan (Some r) some learns =
-    let start = start_state plan.image r.input in
-    more_steps plan.image start plan.budget [] start (first plan.image start plan.budget start (omega arith) refl)
-
--- a run has a turn at least
-pub begins : (plan : PlanOf) (run : ℕ) → 1 ≤ plan.budget → IsLearnRun plan run → (0 == length (learn_steps plan run)) ≡ false
-begins plan run some learns =
-    let more : 0 < length (learn_steps plan run) = begins_with plan (run_at plan run) some learns in
-    grind (arith, nat_tests)
 
 -- after one more turn
 pub gone_on : (plan : PlanOf) (old new : Held) (before after : SummaryOf) (g : Started) (end : Option End) → g.end ≡ None → IsStarted plan old before g → ((seen : List Observation) → StandsFor before seen → StandsFor after (seen ++ seen_in (state_of old) ∷ [])) → end ≡ end_with (plan.budget - g.turns) (turn_of plan.image (state_of old)) → state_of new ≡ left_by (turn_of plan.image (state_of old)) (state_of old) → IsStarted plan new after (record { run = g.run; worker = g.worker; turns = g.turns + 1; end = end })
@@ -65,16 +52,16 @@ over_with plan m summary g r (Some end) is =
     grind (arith, nat_tests)
 
 -- whether a started run has ended
-pub over : (plan : PlanOf) (m : Held) (summary : SummaryOf) (g : Started) → IsStarted plan m summary g → (g.turns == length (learn_steps plan g.run)) ≡ is_some g.end
-over plan m summary g r = ap (λ o. g.turns == length (steps_with plan o)) r.of_plan ∙ over_with plan m summary g r g.end refl
+pub over : (plan : PlanOf) (m : Held) (summary : SummaryOf) (g : Started) (adopted : List Span) → IsStarted plan m summary g → is_over plan (Some (record { run = g.run; worker = g.worker; turns = g.turns; adopted = adopted })) ≡ is_some g.end
+over plan m summary g adopted r =
+    let going : Going = record { run = g.run; worker = g.worker; turns = g.turns; adopted = adopted } in
+    ap (is_over_of plan going) r.of_plan ∙ ap (λ (mode : Mode). is_over_in mode plan going r.run.input) r.learns ∙ over_with plan m summary g r g.end refl
 
-none_of : (e : Option End) → is_some e ≡ false → e ≡ None
-none_of None still = refl
-none_of (Some end) still = cc
-
--- a started run that has not ended has no end
-pub not_over : (plan : PlanOf) (m : Held) (summary : SummaryOf) (g : Started) → IsStarted plan m summary g → (g.turns == length (learn_steps plan g.run)) ≡ false → g.end ≡ None
-not_over plan m summary g r still = none_of g.end (sym (over plan m summary g r) ∙ still)
+-- a learn run wants no block entry
+pub wants_none : (plan : PlanOf) (m : Held) (summary : SummaryOf) (g : Started) (adopted : List Span) → IsStarted plan m summary g → wants plan (Some (record { run = g.run; worker = g.worker; turns = g.turns; adopted = adopted })) ≡ false
+wants_none plan m summary g adopted r =
+    let going : Going = record { run = g.run; worker = g.worker; turns = g.turns; adopted = adopted } in
+    ap (wants_of plan going) r.of_plan ∙ ap (λ (mode : Mode). wants_in mode plan going r.run.input) r.learns
 
 within_with : (plan : PlanOf) (m : Held) (summary : SummaryOf) (g : Started) (r : IsStarted plan m summary g) (e : Option End) → g.end ≡ e → g.turns ≤ plan.budget
 within_with plan m summary g r None is =

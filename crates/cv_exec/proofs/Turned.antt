@@ -8,7 +8,7 @@ use Rattle.cv_base.specs.declared.ends.End.TheVariants.{Failure, Budget}
 use Rattle.cv_base.specs.Picture.{Picture}
 use Rattle.cv_exec.specs.RunEnds.{end_with, end_sites}
 use Rattle.cv_exec.specs.StandsAt.{GoesOn, IsOver, StandsAt}
-use Rattle.cv_histories.specs.Rows.{sites_of, sites_at_end, sites_in, last_sites}
+use Rattle.cv_histories.specs.Rows.{sites_of, sites_at_end, last_sites}
 use Rattle.cv_machine.specs.Answers.{left_by}
 use Rattle.cv_runs.specs.PlainRun.{Step, steps_from, stepped, end_of, state_left}
 use Rattle.cv_runs.specs.PlainTurn.{turn_of}
@@ -27,7 +27,7 @@ last_sites-seam [] step = refl
 last_sites-seam (a ∷ []) step = refl
 last_sites-seam (a ∷ b ∷ done) step = last_sites-seam (b ∷ done) step
 
-sites_by : (end : End) (done : List Step) (step : Step) → sites_at_end end (done ++ step ∷ []) ≡ end_sites end step.before.core
+pub sites_by : (end : End) (done : List Step) (step : Step) → sites_at_end end (done ++ step ∷ []) ≡ end_sites end step.before.core
 sites_by (Failure id detail) done step = last_sites-seam done step
 sites_by _ done step = refl
 

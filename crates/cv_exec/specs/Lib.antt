@@ -1,5 +1,11 @@
 pub mod ArenaOf
+pub mod Ending
+pub mod Keeping
 pub mod LearnRun
+pub mod LiveRun
+pub mod LiveStands
+pub mod PlannedRun
 pub mod RecordOf
 pub mod RunEnds
 pub mod StandsAt
+pub mod Unfired

@@ -1,12 +1,17 @@
 -- Where an arena's machine stands in the run that was started.
-use Rattle.std.specs.Prelude.{◌≡◌, ◌<◌, ◌-◌, ℕ, true, List, ◌++◌, length, Option, Some, None, IfSome}
+use Rattle.std.specs.Prelude.{◌≡◌, ◌<◌, ◌-◌, ℕ, true, List, [], ◌++◌, length, Option, Some, None, option_map, IfSome}
 use Rattle.cv_base.specs.declared.ends.End.{End}
 use Rattle.cv_base.specs.declared.plan.Mode.TheVariants.{Learn}
 use Rattle.cv_base.specs.Picture.{Picture, is_point}
 use Rattle.cv_base.specs.PlanOf.{PlanOf}
 use Rattle.cv_blocks.specs.TextMap.{text_only}
 use Rattle.cv_exec.specs.declared.arena.Started.{Started}
+use Rattle.cv_base.specs.Points.{Range}
+use Rattle.cv_exec.specs.declared.patched.Patched.{Patched}
 use Rattle.cv_exec.specs.ArenaOf.{Going}
+use Rattle.cv_exec.specs.LiveRun.{Span}
+use Rattle.cv_exec.specs.Keeping.{range_of}
+use Rattle.cv_exec.specs.LiveStands.{IsLiveStarted}
 use Rattle.cv_exec.specs.RunEnds.{end_sites}
 use Rattle.cv_histories.specs.Rows.{sites_in}
 use Rattle.cv_histories.specs.Runs.{Run, run_at}
@@ -45,12 +50,30 @@ pub record IsStarted (plan : PlanOf) (machine : Held) (summary : SummaryOf) (sta
   pub stands : StandsAt plan.image (start_state plan.image run.input) plan.budget done (state_of machine) started.end
   pub seen : StandsFor summary (observations done)
 
-pub record IsArena (plan : PlanOf) (machine : Held) (summary : SummaryOf) (started : Option Started) : Type 0 where
+-- a started run: a live one has what it keeps beside the machine
+abbrev pub IsStartedIn : PlanOf → Held → SummaryOf → Option Patched → Started → Type 0
+IsStartedIn plan machine summary None started = IsStarted plan machine summary started
+IsStartedIn plan machine summary (Some p) started = IsLiveStarted plan machine summary started p
+
+pub record IsArena (plan : PlanOf) (machine : Held) (summary : SummaryOf) (range : Range) (patched : Option Patched) (started : Option Started) : Type 0 where
   pub image : machine.image ≡ plan.image
   pub point : is_point machine.image machine.core.pc ≡ true
   pub text : summary.text ≡ text_only plan.image
-  pub run : IfSome started (IsStarted plan machine summary)
+  pub ranged : range ≡ range_of plan.image
+  pub run : IfSome started (IsStartedIn plan machine summary patched)
 
-abbrev pub going_of : Option Started → Option Going
-going_of None = None
-going_of (Some s) = Some (record { run = s.run; worker = s.worker; turns = s.turns })
+abbrev pub spans_of : Option Patched → List Span
+spans_of None = []
+spans_of (Some p) = p.spans.items
+
+abbrev pub going_of : Option Started → Option Patched → Option Going
+going_of None patched = None
+going_of (Some s) patched = Some (record { run = s.run; worker = s.worker; turns = s.turns; adopted = spans_of patched })
+
+-- the turns so far, and the run with these versions adopted
+abbrev pub turns_in : Option Going → ℕ
+turns_in None = 0
+turns_in (Some g) = g.turns
+
+abbrev pub with_adopted : List Span → Option Going → Option Going
+with_adopted adopted going = option_map (λ (g : Going). record g { adopted = adopted }) going

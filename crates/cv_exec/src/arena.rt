@@ -1,28 +1,42 @@
-ghost use Rattle.std.specs.Prelude.{◌≡◌, ◌≤◌, ◌<◌, Some, None, false, true, IfOk, OnOk, OnErr, IsSome};
+ghost use Rattle.std.specs.List.{AllByRecursion};
+ghost use Rattle.std.specs.Prelude.{◌≡◌, ◌≤◌, ◌<◌, ◌++◌, [], ℕ, List, Some, None, false, true, option_map, slice_get, IfOk, OnOk, OnErr, IsSome};
+ghost use Rattle.cv_base.specs.declared.plan.Mode.TheVariants as mode;
 ghost use Rattle.cv_blocks.specs.TextMap.{text_only};
-ghost use Rattle.cv_exec.specs.ArenaOf.{has_ended, steps_of_going, steps_made, one_more, entry_of_going};
+ghost use Rattle.cv_exec.specs.ArenaOf.{adopted_in, entered, entry_of_going, has_ended, one_more, seen_so_far, wants_entry};
 ghost use Rattle.cv_exec.specs.LearnRun.{IsLearnRun, learn_steps, entry_by};
+ghost use Rattle.cv_exec.specs.LiveRun.{HaveTables, IsLiveRun, MayAdopt, Span, rows_of};
+ghost use Rattle.cv_exec.specs.Keeping.{IsNotBelow, last_span, table_if};
+ghost use Rattle.cv_exec.specs.StandsAt.{turns_in, with_adopted};
+ghost use Rattle.cv_exec.specs.Unfired.{SaysPlain};
+ghost use Rattle.cv_histories.specs.Honest.{IsHonest};
+ghost use Rattle.cv_histories.specs.Legal.{NeverFalls};
+ghost use Rattle.cv_histories.specs.Rows.{written};
+ghost use Rattle.cv_histories.specs.Runs.{run_at};
 ghost use Rattle.cv_observe.specs.StandsFor.{StandsFor};
+ghost use Rattle.cv_patch.specs.Adopting.{IsGrown};
 ghost use Rattle.cv_runs.specs.Learned.{observations};
 
-use crate::plans::{budget_of, input_of};
-use crate::sites::sites_of;
+use crate::ending::{entry_of, spans_in, told};
+use crate::patched::{Patched, patched_for};
+use crate::plans::{budget_of, input_of, mode_of};
 use crate::turns::{see, turn};
-use crate::{Record, SharedPlan};
-use cv_base::{End, Entry, Items, Mode, NoMemory, Plan};
+use crate::{Record, SharedPlan, unfired_is_plain};
+use cv_base::{End, Entry, Items, Mode, NoMemory, PatchTable, Plan, TextRange};
 use cv_blocks::TextMap;
 use cv_machine::Machine;
 use cv_observe::Summary;
+use cv_patch::{Adopter, Watcher};
 use std::alloc::Global;
 use std::marker::Model;
+use std::sync::Arc;
 
 /// A run that was started and not finished.
 #[derive(Clone, Copy, Debug)]
 pub(crate) struct Started {
-    run: u32,
-    worker: u32,
+    pub(crate) run: u32,
+    pub(crate) worker: u32,
     /// The turns so far.
-    turns: u32,
+    pub(crate) turns: u32,
     /// How the run has ended, once it has.
     end: Option<End>,
 }
@@ -36,6 +50,9 @@ pub struct Arena {
     machine: Machine,
     summary: Summary,
     started: Option<Started>,
+    text: TextRange,
+    /// What a live run keeps beside the machine; `None` in a learn run.
+    patched: Option<Patched>,
 }
 
 impl Model for Arena {
@@ -45,9 +62,9 @@ impl Model for Arena {
 
     ghost use Rattle.cv_exec.specs.StandsAt.{IsArena, going_of};
 
-    ghost view = { λ a. record { plan = a.plan; going = going_of a.started; summary = a.summary } };
+    ghost view = { λ a. record { plan = a.plan; going = going_of a.started a.patched; summary = a.summary } };
 
-    ghost invariant = { λ a. IsArena a.plan a.machine a.summary a.started };
+    ghost invariant = { λ a. IsArena a.plan a.machine a.summary a.text a.patched a.started };
 }
 
 impl Arena {
@@ -57,6 +74,7 @@ impl Arena {
         ensures going { IfOk result (λ a. a.going ≡ None) }
     {
         let map = TextMap::make(alloc, &plan.image)?;
+        let text = map.range();
         let summary = Summary::make(alloc, &map)?;
         let machine = Machine::make(alloc, &plan.image)?;
         let plan = SharedPlan::make(alloc, plan)?;
@@ -65,11 +83,13 @@ impl Arena {
             machine,
             summary,
             started: None,
+            text,
+            patched: None,
         })
     }
 
-    /// Starts a learn run of the arena's plan, by its number, for a worker of the plan. A run that
-    /// was not finished is given up. Where memory is refused the arena stays as it was.
+    /// Starts a run of the arena's plan, by its number, for a worker of the plan. A run that was not
+    /// finished is given up. Where memory is refused the arena stays as it was.
     pub fn start(
         &mut self,
         alloc: Global,
@@ -78,9 +98,9 @@ impl Arena {
         worker: u32,
     ) -> Result<(), NoMemory>
         requires plan { plan.now ≡ self.old.plan }
-        requires learns { IsLearnRun plan.now run }
+        requires run { IsSome (run_at plan.now run) }
         requires worker { worker < plan.now.workers }
-        ensures going { OnOk result (self.new.going ≡ Some (record { run = run; worker = worker; turns = 0 })) }
+        ensures going { OnOk result (self.new.going ≡ Some (record { run = run; worker = worker; turns = 0; adopted = [] })) }
         ensures begins { OnOk result (has_ended self.new ≡ false) }
         ensures plan { self.new.plan ≡ self.old.plan }
         ensures err { OnErr result (self.new ≡ self.old) }
@@ -89,6 +109,7 @@ impl Arena {
         let input = input_of(plan, run);
         self.machine.begin(alloc, input)?;
         self.summary.clear();
+        self.patched = patched_for(alloc, mode_of(plan, run), self.text);
         self.started = Some(Started {
             run,
             worker,
@@ -108,12 +129,44 @@ impl Arena {
         }
     }
 
-    /// One turn of the run that is going on, of which the summary sees the point, the registers and
-    /// the frame's sp before it: whether the run has ended with it. Where memory is refused the
-    /// arena stands before the same turn.
+    /// Whether a live run is going on whose next turn is a block entry, for which no version was
+    /// adopted yet. It takes no memory.
+    pub fn wants_entry(&self) -> bool
+        ensures { result ≡ wants_entry self.now }
+    {
+        match (&self.started, &self.patched) {
+            (Some(started), Some(patched)) => started.end.is_none() && patched.wants_entry(),
+            _ => false,
+        }
+    }
+
+    /// The block entry that is wanted adopts a version, with its table: a version not below the last
+    /// one of this run and, where it is that one, its table. Where memory is refused the arena stays
+    /// as it was.
+    pub fn adopt(&mut self, version: u32, table: Arc<PatchTable, Global>) -> Result<(), NoMemory>
+        requires wanted { wants_entry self.old ≡ true }
+        requires may { MayAdopt version table.value (adopted_in self.old.going) }
+        ensures going { OnOk result (self.new.going ≡ entered version table.value self.old.going) }
+        ensures goes_on { OnOk result (has_ended self.new ≡ false) }
+        ensures entered { OnOk result (wants_entry self.new ≡ false) }
+        ensures plan { self.new.plan ≡ self.old.plan }
+        ensures err { OnErr result (self.new ≡ self.old) }
+    {
+        let _budget = budget_of(self.plan.get());
+        match &mut self.patched {
+            Some(patched) => patched.adopt(version, table),
+            None => unreachable!(),
+        }
+    }
+
+    /// One turn of the run that is going on: whether the run has ended with it. A learn run's turn is
+    /// plain, and the summary sees the point, the registers and the frame's sp before it; a live run's
+    /// is patched with the table that was adopted last. Where memory is refused the arena stands
+    /// before the same turn.
     pub fn step(&mut self) -> Result<bool, NoMemory>
         requires started { IsSome self.old.going }
         requires goes_on { has_ended self.old ≡ false }
+        requires entered { wants_entry self.old ≡ false }
         ensures turned { OnOk result (self.new.going ≡ one_more self.old.going) }
         ensures ended { IfOk result (λ over. over ≡ has_ended self.new) }
         ensures plan { self.new.plan ≡ self.old.plan }
@@ -123,8 +176,13 @@ impl Arena {
             unreachable!()
         };
         let left = budget_of(self.plan.get()) - started.turns;
-        see(&mut self.summary, self.machine.core())?;
-        let end = turn(&mut self.machine, left);
+        let end = match &mut self.patched {
+            Some(patched) => patched.turn(&mut self.machine, left),
+            None => {
+                see(&mut self.summary, self.machine.core())?;
+                turn(&mut self.machine, left)
+            }
+        };
         self.started = Some(Started {
             turns: started.turns + 1,
             end,
@@ -139,9 +197,10 @@ impl Arena {
         requires { has_ended self.old ≡ true }
         ensures plan { IfOk result (λ r. r.plan ≡ self.old.plan) }
         ensures entry { IfOk result (λ r. entry_of_going self.old.plan self.old.going ≡ Some r.entry) }
+        ensures adopted { IfOk result (λ r. r.adopted ≡ adopted_in self.old.going) }
         ensures turns { IfOk result (λ r. r.entry.turns ≤ self.old.plan.budget) }
         ensures worker { IfOk result (λ r. r.entry.worker < self.old.plan.workers) }
-        ensures seen { OnOk result (StandsFor self.new.summary (observations (steps_of_going self.old.plan self.old.going))) }
+        ensures seen { OnOk result (StandsFor self.new.summary (seen_so_far self.old.plan self.old.going)) }
         ensures left { OnOk result (self.new ≡ record self.old { going = None }) }
         ensures err { OnErr result (self.new ≡ self.old) }
     {
@@ -152,22 +211,11 @@ impl Arena {
             unreachable!()
         };
         let plan = self.plan.shared()?;
-        let sites = sites_of(alloc, end, self.machine.core())?;
-        let output = Items::from_slice(alloc, self.machine.output())?;
-        let entry = Entry {
-            run: started.run,
-            worker: started.worker,
-            mode: Mode::Learn,
-            adopted: Items::make(alloc),
-            end,
-            turns: started.turns,
-            sites,
-            output,
-            tally: Items::make(alloc),
-            fired: Items::make(alloc),
-        };
+        let entry = entry_of(alloc, started, end, &self.machine)?;
+        let entry = told(alloc, entry, &self.patched)?;
+        let spans = spans_in(alloc, self.patched.take());
         self.started = None;
-        Ok(Record { plan, entry })
+        Ok(Record { plan, entry, spans })
     }
 
     /// A learn run of the arena's plan from its start to its end: `start`, `step` until it has
@@ -197,12 +245,134 @@ impl Arena {
         self.finish(alloc)
     }
 
-    /// What was seen before the turns of the run that is going on or, after `finish`, of the one
-    /// that was finished.
+    /// A live run of the arena's plan from its start to its end: `start`; then, before each turn that
+    /// is a block entry, the watcher is told of it, and the adopter's version is adopted; `step` until
+    /// it has ended; and `finish`. A table is asked for only where the version is another than the
+    /// last one. Where memory is refused the arena can run again.
+    ///
+    /// Where no repair fired, the entry says what the run without patches does.
+    pub fn live<A: Adopter, W: Watcher>(
+        &mut self,
+        alloc: Global,
+        plan: &Plan,
+        run: u32,
+        worker: u32,
+        adopter: &mut A,
+        watcher: &mut W,
+    ) -> Result<Record, NoMemory>
+        requires plan { plan.now ≡ self.old.plan }
+        requires lives { IsLiveRun plan.now run }
+        requires worker { worker < plan.now.workers }
+        ensures record_plan { IfOk result (λ r. r.plan ≡ plan.now) }
+        ensures run { IfOk result (λ r. r.entry.run ≡ run) }
+        ensures by { IfOk result (λ r. r.entry.worker ≡ worker) }
+        ensures live { IfOk result (λ r. r.entry.mode ≡ mode.Live) }
+        ensures tables { IfOk result (λ r. HaveTables (A.tables adopter.new) r.adopted) }
+        ensures honest { IfOk result (λ r. IsHonest plan.now (A.tables adopter.new) r.entry) }
+        ensures answers { IfOk result (λ r. (before : List ℕ) → A.Answers adopter.old before → A.Answers adopter.new (before ++ written r.entry.adopted)) }
+        ensures rises { IfOk result (λ r. NeverFalls r.entry.adopted) }
+        ensures unfired { IfOk result (λ r. r.entry.fired ≡ [] → SaysPlain plan.now r.entry) }
+        ensures turns { IfOk result (λ r. r.entry.turns ≤ plan.now.budget) }
+        ensures grown { IsGrown (A.tables adopter.old) (A.tables adopter.new) }
+        ensures origin { A.origin adopter.new ≡ A.origin adopter.old }
+        ensures left { OnOk result (self.new.going ≡ None) }
+        ensures plan { self.new.plan ≡ self.old.plan }
+    {
+        self.start(alloc, plan, run, worker)?;
+        let mut over = false;
+        while !over {
+            self.enter(alloc, adopter, watcher)?;
+            over = self.step()?;
+        }
+        let record = self.finish(alloc)?;
+        unfired_is_plain();
+        let _honest = record.entry();
+        Ok(record)
+    }
+
+    /// Before a turn of a live run. Where it is a block entry, the watcher is told of it, and the
+    /// adopter's version is adopted.
+    fn enter<A: Adopter, W: Watcher>(
+        &mut self,
+        alloc: Global,
+        adopter: &mut A,
+        watcher: &mut W,
+    ) -> Result<(), NoMemory>
+        requires started { IsSome self.old.going }
+        requires goes_on { has_ended self.old ≡ false }
+        requires tables { HaveTables (A.tables adopter.old) (adopted_in self.old.going) }
+        requires answered { AllByRecursion (λ (s : Span). A.HasAnswered adopter.old s.version) (adopted_in self.old.going) }
+        ensures below { turns_in self.old.going < self.old.plan.budget }
+        ensures going { OnOk result (self.new.going ≡ with_adopted (adopted_in self.new.going) self.old.going) }
+        ensures goes_on { OnOk result (has_ended self.new ≡ false) }
+        ensures entered { OnOk result (wants_entry self.new ≡ false) }
+        ensures rises { OnOk result (NeverFalls (rows_of (adopted_in self.old.going)) → NeverFalls (rows_of (adopted_in self.new.going))) }
+        ensures tables { OnOk result (HaveTables (A.tables adopter.new) (adopted_in self.new.going)) }
+        ensures answered { OnOk result (AllByRecursion (λ (s : Span). A.HasAnswered adopter.new s.version) (adopted_in self.new.going)) }
+        ensures answers { OnOk result ((before : List ℕ) → A.Answers adopter.old (before ++ written (rows_of (adopted_in self.old.going))) → A.Answers adopter.new (before ++ written (rows_of (adopted_in self.new.going)))) }
+        ensures grown { IsGrown (A.tables adopter.old) (A.tables adopter.new) }
+        ensures origin { A.origin adopter.new ≡ A.origin adopter.old }
+        ensures plan { self.new.plan ≡ self.old.plan }
+    {
+        let turn = self.turns();
+        if !self.wants_entry() {
+            return Ok(());
+        }
+        watcher.entry(turn);
+        let version = adopter.enter();
+        let table = self.table_of(alloc, adopter, version)?;
+        self.adopt(version, table)
+    }
+
+    /// The table of a version that the adopter has answered, which is asked only where the run has not
+    /// adopted it last.
+    fn table_of<A: Adopter>(
+        &self,
+        alloc: Global,
+        adopter: &mut A,
+        version: u32,
+    ) -> Result<Arc<PatchTable, Global>, NoMemory>
+        requires { A.HasAnswered adopter.old version }
+        ensures may { IfOk result (λ t. IsNotBelow version (last_span (adopted_in self.now.going)) → MayAdopt version t.value (adopted_in self.now.going)) }
+        ensures table { IfOk result (λ t. HaveTables (A.tables adopter.old) (adopted_in self.now.going) → slice_get (A.tables adopter.new) version ≡ Some t.value) }
+        ensures answers { (before : List ℕ) → A.Answers adopter.old before → A.Answers adopter.new before }
+        ensures kept { (version : ℕ) → A.HasAnswered adopter.old version → A.HasAnswered adopter.new version }
+        ensures grown { IsGrown (A.tables adopter.old) (A.tables adopter.new) }
+        ensures origin { A.origin adopter.new ≡ A.origin adopter.old }
+    {
+        match self.last_table(version)? {
+            Some(table) => Ok(table),
+            None => adopter.table(alloc, version),
+        }
+    }
+
+    /// The table of a version, where it is the one that the run adopted last.
+    fn last_table(&self, version: u32) -> Result<Option<Arc<PatchTable, Global>>, NoMemory>
+        ensures { IfOk result (λ found. option_map (λ t. t.value) found ≡ table_if version (last_span (adopted_in self.now.going))) }
+    {
+        match (&self.started, &self.patched) {
+            (Some(_), Some(patched)) => patched.last_table(version),
+            _ => Ok(None),
+        }
+    }
+
+    /// The turns so far of the run that is going on.
+    fn turns(&self) -> u32
+        ensures value { result ≡ turns_in self.now.going }
+        ensures below { has_ended self.now ≡ false → IsSome self.now.going → result < self.now.plan.budget }
+    {
+        match &self.started {
+            Some(started) => started.turns,
+            None => 0,
+        }
+    }
+
+    /// What was seen before the turns of the learn run that is going on or, after `finish`, of the one
+    /// that was finished; nothing in a live run.
     pub fn summary(&self) -> &Summary
         ensures value { result.now ≡ self.now.summary }
         ensures text { result.now.text ≡ text_only self.now.plan.image }
-        ensures so_far { IsSome self.now.going → StandsFor result.now (observations (steps_made self.now.plan self.now.going)) }
+        ensures so_far { IsSome self.now.going → StandsFor result.now (seen_so_far self.now.plan self.now.going) }
     {
         let _started = &self.started;
         &self.summary

@@ -1,13 +1,21 @@
-//! Runs in an arena: learn runs of a plan, turn by turn or whole, with what they saw and a record
-//! of each (docs/REPAIR.md, "Learning").
+//! Runs in an arena: learn runs of a plan with what they saw, and live runs under the patches that
+//! they adopt, turn by turn or whole, with a record of each (docs/REPAIR.md, "Learning" and
+//! "Patched runs").
 #![tactic(auto)]
 
 mod arena;
+mod ending;
+mod laws;
+mod patched;
 mod plans;
 mod record;
 mod sites;
 mod turns;
 
 pub use arena::Arena;
-pub use plans::SharedPlan;
+pub use laws::unfired_is_plain;
+pub use plans::{SharedPlan, mode_of};
 pub use record::Record;
+
+#[cfg(test)]
+mod tests;

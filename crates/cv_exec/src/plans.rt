@@ -1,7 +1,8 @@
-ghost use Rattle.std.specs.Prelude.{◌≡◌, ◌≤◌, ◌<◌, Some, length, option_map, IfOk, IsSome};
+ghost use Rattle.std.specs.Prelude.{◌≡◌, ◌≤◌, ◌<◌, Some, None, length, option_map, IfOk, IfSome, IsSome, MatchOption};
+ghost use Rattle.cv_exec.specs.PlannedRun.{IsRunWith};
 ghost use Rattle.cv_histories.specs.Runs.{Run, run_at};
 
-use cv_base::{NoMemory, Plan};
+use cv_base::{Mode, NoMemory, Plan};
 use std::alloc::Global;
 use std::marker::Model;
 use std::sync::Arc;
@@ -49,8 +50,20 @@ impl SharedPlan {
 pub(crate) fn budget_of(plan: &Plan) -> u32
     ensures value { result ≡ plan.now.budget }
     ensures some { 1 ≤ result }
+    ensures few { result ≤ 10000000 }
 {
     plan.budget
+}
+
+/// The mode of a run of a plan, numbered from 0 through the rounds; None where there is no such
+/// run.
+pub fn mode_of(plan: &Plan, run: u32) -> Option<Mode>
+    ensures { result ≡ option_map (λ (r : Run). r.mode) (run_at plan.now run) }
+{
+    match run_of(plan, run) {
+        Some((mode, _)) => Some(mode),
+        None => None,
+    }
 }
 
 /// The input of a run of a plan, numbered from 0 through the rounds.
@@ -59,13 +72,24 @@ pub(crate) fn input_of(plan: &Plan, run: u32) -> &[u8]
     ensures input { option_map (λ (r : Run). r.input) (run_at plan.now run) ≡ Some result.now }
     ensures short { length result.now ≤ 65536 }
 {
+    match run_of(plan, run) {
+        Some((_, input)) => input,
+        None => unreachable!(),
+    }
+}
+
+/// The mode and the input of a run of a plan.
+fn run_of(plan: &Plan, run: u32) -> Option<(Mode, &[u8])>
+    ensures found { MatchOption result (run_at plan.now run ≡ None) (λ found. IsRunWith found.0 found.1.now (run_at plan.now run)) }
+    ensures short { IfSome result (λ found. length found.1.now ≤ 65536) }
+{
     let mut left = run as usize;
     for round in plan.rounds.as_slice() {
         let inputs = round.inputs.as_slice();
         if left < inputs.len() {
-            return inputs[left].as_slice();
+            return Some((round.mode, inputs[left].as_slice()));
         }
         left -= inputs.len();
     }
-    unreachable!()
+    None
 }

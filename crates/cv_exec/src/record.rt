@@ -1,28 +1,28 @@
-ghost use Rattle.std.specs.Prelude.{◌≡◌, []};
-ghost use Rattle.cv_histories.specs.Honest.{IsHonest};
+ghost use Rattle.std.specs.Prelude.{◌≡◌};
+ghost use Rattle.cv_exec.specs.RecordOf.{IsHonestUnder};
 
 use crate::SharedPlan;
+use crate::patched::Span;
 use cv_base::{Entry, Plan};
 use std::marker::Model;
 
-/// A run's entry with its plan, made by an arena alone: the entry is honest, of the plain run in a
-/// learn run (docs/REPAIR.md, "Entries").
+/// A run's entry with its plan and the tables of the versions that it adopted, made by an arena
+/// alone: the entry is honest wherever those versions have these tables (docs/REPAIR.md, "Entries").
 #[derive(Drop)]
 pub struct Record {
     pub(crate) plan: SharedPlan,
     pub(crate) entry: Entry,
+    pub(crate) spans: Vec<Span>,
 }
 
 impl Model for Record {
-    ghost use Rattle.std.specs.Prelude.{[]};
-    ghost use Rattle.cv_exec.specs.RecordOf.{RecordOf};
-    ghost use Rattle.cv_histories.specs.Honest.{IsHonest};
+    ghost use Rattle.cv_exec.specs.RecordOf.{IsHonestUnder, RecordOf};
 
     ghost Value = { RecordOf };
 
-    ghost view = { λ r. record { plan = r.plan; entry = r.entry } };
+    ghost view = { λ r. record { plan = r.plan; entry = r.entry; adopted = r.spans.items } };
 
-    ghost invariant = { λ r. IsHonest r.plan [] r.entry };
+    ghost invariant = { λ r. IsHonestUnder r.plan r.spans.items r.entry };
 }
 
 impl Record {
@@ -36,7 +36,7 @@ impl Record {
     /// The run's entry, which is honest: that of a learn run says what the plain run did.
     pub fn entry(&self) -> &Entry
         ensures value { result.now ≡ self.now.entry }
-        ensures honest { IsHonest self.now.plan [] result.now }
+        ensures honest { IsHonestUnder self.now.plan self.now.adopted result.now }
     {
         &self.entry
     }
@@ -44,9 +44,9 @@ impl Record {
     /// The run's entry. It takes no memory.
     pub fn into_entry(self) -> Entry
         ensures value { result ≡ self.entry }
-        ensures honest { IsHonest self.plan [] result }
+        ensures honest { IsHonestUnder self.plan self.adopted result }
     {
-        let Record { plan: _plan, entry } = self;
+        let Record { entry, .. } = self;
         entry
     }
 }
