@@ -1,14 +1,13 @@
 -- What the parts of a command say of its text.
-use Rattle.std.proofs.Common.{◌≡◌, ℕ, ◌+◌, ◌≤◌, List, Option, Some, None, Result, Ok, Err, IfSome, inl, inr, refl, ◌∙◌, arith, string_bytes}
+use Rattle.std.proofs.Common.{◌≡◌, ℕ, List, Option, Some, None, Ok, Err, IfSome, inl, inr, refl, ◌∙◌, arith, string_bytes}
 use Rattle.std.specs.declared.string.String.{String}
 use Rattle.std.specs.declared.alloc.Global.{Global}
 use Rattle.cv_base.specs.Picture.{Picture}
-use Rattle.cv_edge.specs.Edge.{Held, UpTo, FetchesUpTo, FetchesOnce}
+use Rattle.cv_edge.specs.Edge.{Held, FetchesUpTo, FetchesOnce}
 use Rattle.cv_base.specs.PlanOf.{PlanOf}
 use Rattle.cv_histories.specs.OtherTexts.{infer_text}
 use Rattle.cv_runs.specs.PlainText.{plain_text}
 use Rattle.clearview.specs.declared.cause.Cause.{Cause}
-use Rattle.clearview.specs.declared.cause.Cause.TheVariants as cause
 use Rattle.clearview.specs.CheckText.{check_text}
 use Rattle.clearview.specs.Gives.{Gives, GivesText}
 use Rattle.clearview.specs.Verdict.{image_in, plan_in, verdict_by}

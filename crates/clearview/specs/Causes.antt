@@ -1,5 +1,5 @@
 -- How a call ends, against what it has to come to (docs/FORMATS.md, "Causes and statuses").
-use Rattle.std.specs.Prelude.{◌≡◌, ℕ, List, Option, Result, Ok, Err, ◌⊎◌}
+use Rattle.std.specs.Prelude.{◌≡◌, ℕ, List, Option, Ok, Err, ◌⊎◌}
 use Rattle.cv_edge.specs.Edge.{Appends, AppendsPrefix, Keeps}
 use Rattle.clearview.specs.declared.cause.Cause.{Cause}
 use Rattle.clearview.specs.declared.cause.Cause.TheVariants as cause

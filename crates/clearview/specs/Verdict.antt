@@ -1,12 +1,11 @@
 -- What a command has to come to: the text to write, or the cause against it, in the order in
 -- which the causes are tested (docs/FORMATS.md, "Causes and statuses").
-use Rattle.std.specs.Prelude.{ℕ, Bool, nat_lt, if◌then◌else◌, List, [], ◌∷◌, length, take, Option, Some, None, Result, Ok, Err}
+use Rattle.std.specs.Prelude.{ℕ, nat_lt, if◌then◌else◌, List, [], ◌∷◌, length, take, Option, Some, None, Result, Ok, Err}
 use Rattle.std.specs.Str.{bytes_eq}
 use Rattle.cv_base.specs.declared.image.ImageFault.{ImageFault}
 use Rattle.cv_base.specs.Picture.{Picture}
 use Rattle.cv_elf.specs.ElfReading.{elf_reading}
 use Rattle.cv_image.specs.FlatReading.{flat_reading}
-use Rattle.cv_job.specs.declared.job.JobFault.{JobFault}
 use Rattle.cv_job.specs.JobOf.{JobOf, plan_of}
 use Rattle.cv_job.specs.Reading.{reading_of}
 use Rattle.cv_runs.specs.PlainText.{plain_text}

@@ -1,5 +1,4 @@
 -- The command that a reading of words answers.
-use Rattle.std.specs.Prelude.{ℕ, List}
 use Rattle.clearview.specs.declared.words.Command.{Command as Reading}
 use Rattle.clearview.specs.declared.words.Command.TheVariants as reading
 use Rattle.clearview.specs.Words.{Command, Plain, Check, Infer}

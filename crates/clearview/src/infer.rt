@@ -1,13 +1,16 @@
-ghost use Rattle.std.specs.Prelude.{◌≡◌, ◌<◌, ◌++◌, [], List, length, option_map, string_bytes, IfOk, OnOk};
+ghost use Rattle.std.specs.Prelude.{◌≡◌, ◌<◌, ◌++◌, [], List, Some, length, option_map, string_bytes, IfOk, OnOk};
 ghost use Rattle.std.specs.List.{flat_map};
+ghost use Rattle.cv_base.specs.declared.entries.Entry.{Entry};
 ghost use Rattle.cv_base.specs.declared.entries.Observation.{Observation};
 ghost use Rattle.cv_base.specs.InvariantText.{invariant_text};
 ghost use Rattle.cv_blocks.specs.TextMap.{text_only};
+ghost use Rattle.cv_exec.specs.LearnRun.{IsLearnRun, entry_by, learn_steps};
 ghost use Rattle.cv_histories.specs.OtherTexts.{infer_lines, infer_text, inferred, seen_in_learn_run};
 ghost use Rattle.cv_histories.specs.Report.{line};
 ghost use Rattle.cv_histories.specs.Runs.{Run, run_at, runs};
 ghost use Rattle.cv_histories.specs.Seen.{is_exit};
 ghost use Rattle.cv_observe.specs.StandsFor.{StandsFor};
+ghost use Rattle.cv_runs.specs.Learned.{observations};
 ghost use Rattle.clearview.specs.Inferring.{seen_in_run_at};
 
 use cv_base::{End, Invariant, Items, Mode, NoMemory, Plan};
@@ -75,11 +78,24 @@ fn learn_run(
     if mode_of(plan, run) != Some(Mode::Learn) {
         return Ok(());
     }
-    let record = arena.learn(alloc, plan, run, 0)?;
-    if is_exit(record.entry().end) {
+    let end = end_of_run(alloc, plan, run, arena)?;
+    if is_exit(end) {
         merged.merge(arena.summary())?;
     }
     Ok(())
+}
+
+/// Makes a learn run in the arena: how it ended.
+fn end_of_run(alloc: Global, plan: &Plan, run: u32, arena: &mut Arena) -> Result<End, NoMemory>
+    requires plan { plan.now ≡ arena.old.plan }
+    requires learns { IsLearnRun plan.now run }
+    requires worker { 0 < plan.now.workers }
+    ensures end { IfOk result (λ end. option_map (λ (e : Entry). e.end) (entry_by plan.now run 0) ≡ Some end) }
+    ensures seen { OnOk result (StandsFor arena.new.summary (observations (learn_steps plan.now run))) }
+    ensures plan { arena.new.plan ≡ arena.old.plan }
+{
+    let record = arena.learn(alloc, plan, run, 0)?;
+    Ok(record.entry().end)
 }
 
 /// The number of runs of a plan, which has a worker for them.
