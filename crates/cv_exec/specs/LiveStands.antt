@@ -1,5 +1,5 @@
 -- Where a live run stands between its turns (docs/REPAIR.md, "Patched runs").
-use Rattle.std.specs.Prelude.{◌≡◌, ◌≤◌, ◌<◌, ℕ, Bool, true, false, ◌||◌, ◌==◌, ◌+◌, ◌-◌, List, [], ◌++◌, length, Option, Some, None, option_map, slice_get, IsSome}
+use Rattle.std.specs.Prelude.{◌≡◌, ◌≤◌, ◌<◌, ℕ, Bool, true, false, ◌||◌, ◌==◌, ◌+◌, List, [], ◌++◌, length, Option, Some, None, option_map, slice_get, IsSome}
 use Rattle.cv_base.specs.Picture.{Picture}
 use Rattle.cv_base.specs.PlanOf.{PlanOf}
 use Rattle.cv_base.specs.declared.ends.End.{End}

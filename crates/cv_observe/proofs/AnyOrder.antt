@@ -1,5 +1,5 @@
 -- What is learned does not depend on the order of the observations.
-use Rattle.std.proofs.Common.{◌≡◌, ℕ, ◌^◌, ◌<◌, Bool, true, false, cond, ◌&&◌, eqb, leb, not, List, [], ◌∷◌, ◌++◌, ◌∙◌, Option, None, refl, sym, ap, fold, map, length, get_or, unwrap_or, ⊎_elim, arith}
+use Rattle.std.proofs.Common.{◌≡◌, ℕ, ◌^◌, ◌<◌, Bool, true, false, cond, ◌&&◌, eqb, leb, List, [], ◌∷◌, ◌∙◌, Option, None, refl, sym, ap, fold, map, length, get_or, unwrap_or, ⊎_elim, arith}
 use Rattle.std.proofs.Math.Path.{fun_ext}
 use Rattle.std.proofs.lemmas.Bool.{cases_lt}
 use Rattle.std.proofs.lemmas.List.{get_or_past}

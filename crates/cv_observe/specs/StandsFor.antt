@@ -1,5 +1,5 @@
 -- What a summary of observations stands for (docs/REPAIR.md, "Learning").
-use Rattle.std.specs.Prelude.{◌≡◌, ℕ, Bool, List}
+use Rattle.std.specs.Prelude.{◌≡◌, Bool, List}
 use Rattle.std.specs.List.{list_all}
 use Rattle.cv_base.specs.declared.entries.Observation.{Observation}
 use Rattle.cv_base.specs.Picture.{Picture, is_point}

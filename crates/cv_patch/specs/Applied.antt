@@ -1,5 +1,5 @@
 -- What the patches at a pc answer (docs/REPAIR.md, "Patches").
-use Rattle.std.specs.Prelude.{ℕ, Bool, true, ◌==◌, if◌then◌else◌, List, length}
+use Rattle.std.specs.Prelude.{◌==◌, if◌then◌else◌, List, length}
 use Rattle.cv_base.specs.declared.patches.Patch.{Patch}
 use Rattle.cv_base.specs.Points.{Range, is_point_in}
 use Rattle.cv_patch.specs.declared.applying.Applied.{Applied}

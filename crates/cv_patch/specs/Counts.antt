@@ -1,5 +1,5 @@
 -- What the rows of a tally, and those of the repairs that fired, count (docs/REPAIR.md, "Entries").
-use Rattle.std.specs.Prelude.{◌≡◌, ℕ, Bool, true, ◌&&◌, ◌||◌, ◌==◌, ◌+◌, ◌++◌, nat_le, nat_lt, List, [], ◌∷◌, length, filter}
+use Rattle.std.specs.Prelude.{◌≡◌, ℕ, Bool, true, ◌&&◌, ◌||◌, ◌==◌, ◌+◌, ◌++◌, nat_le, nat_lt, List, length, filter}
 use Rattle.std.specs.List.{AllByRecursion, AllPairs, list_all, list_any}
 use Rattle.cv_base.specs.declared.entries.FiredRow.{FiredRow}
 use Rattle.cv_base.specs.declared.entries.TallyRow.{TallyRow}

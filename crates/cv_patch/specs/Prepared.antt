@@ -8,15 +8,15 @@ use Rattle.cv_base.specs.declared.patches.Patch.TheVariants.{Check, Enforce}
 use Rattle.cv_patch.specs.Counts.{has_fired, has_tally, is_before}
 
 -- a row that passes stands at a place
-pub record StandsAt {X : Type 0} (is : X → Bool) (rows : List X) (at : ℕ) : Type 0 where
-  pub within : at < length rows
-  pub passes : HoldsAt (λ (r : X). is r ≡ true) rows at
+pub record StandsAt {X : Type 0} (is : X → Bool) (list : List X) (at : ℕ) : Type 0 where
+  pub within : at < length list
+  pub passes : HoldsAt (λ (r : X). is r ≡ true) list at
 
 -- the rows before a place are lower, and those from there on are higher
-pub record BelongsAt {X : Type 0} (lower higher : X → Bool) (rows : List X) (at : ℕ) : Type 0 where
-  pub within : at ≤ length rows
-  pub before : AllWithin (λ (r : X). lower r ≡ true) rows 0 at
-  pub behind : AllWithin (λ (r : X). higher r ≡ true) rows at (length rows)
+pub record BelongsAt {X : Type 0} (lower higher : X → Bool) (list : List X) (at : ℕ) : Type 0 where
+  pub within : at ≤ length list
+  pub before : AllWithin (λ (r : X). lower r ≡ true) list 0 at
+  pub behind : AllWithin (λ (r : X). higher r ≡ true) list at (length list)
 
 -- a row before that of a candidate or a repair, and one behind it
 abbrev pub is_lower : ℕ → ℕ → TallyRow → Bool

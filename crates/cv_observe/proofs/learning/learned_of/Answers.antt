@@ -1,4 +1,4 @@
-use Rattle.std.proofs.Common.{◌≡◌, ℕ, ◌<◌, ◌∙◌, ap, length, map, true, arith, rules}
+use Rattle.std.proofs.Common.{◌≡◌, ℕ, map, true, arith, rules}
 use Rattle.std.specs.List.{All}
 use Rattle.cv_base.specs.declared.entries.Observation.{Observation}
 use Rattle.cv_base.specs.Picture.{is_point}

@@ -1,7 +1,7 @@
-use Rattle.std.proofs.Common.{◌≡◌, ℕ, ◌<◌, true, false, List, [], ◌∷◌, ◌++◌, ◌∙◌, ap, sym, rules}
+use Rattle.std.proofs.Common.{◌≡◌, ℕ, ◌<◌, [], ◌∷◌, ◌++◌, ◌∙◌, sym, rules}
 use Rattle.std.proofs.lemmas.List.Elements.{All-push, All-nil}
 use Rattle.cv_isa.specs.Uses.{has, members_of}
-use Rattle.cv_observe.proofs.Members.{members_from, members_taken, members_left, members_end, members_all}
+use Rattle.cv_observe.proofs.Members.{members_taken, members_left, members_end, members_all}
 use Rattle.cv_observe.proofs.numbers.members.Goals as goal
 use Rattle.cv_observe.proofs.numbers.members.Goals.{then-contains+in_ok-push, else-contains}
 
