@@ -3,6 +3,7 @@ pub mod Causes
 pub mod CheckText
 pub mod Froms
 pub mod Gives
+pub mod Headline
 pub mod Inferring
 pub mod Verdict
 pub mod Views

@@ -11,10 +11,12 @@ use Rattle.cv_job.specs.Reading.{reading_of}
 use Rattle.cv_runs.specs.PlainText.{plain_text}
 use Rattle.cv_base.specs.PlanOf.{PlanOf}
 use Rattle.cv_histories.specs.OtherTexts.{infer_text}
+use Rattle.cv_histories.specs.Report.{report}
+use Rattle.cv_histories.specs.Serial.{serial}
 use Rattle.clearview.specs.CheckText.{check_text}
 use Rattle.clearview.specs.declared.cause.Cause.{Cause}
 use Rattle.clearview.specs.declared.cause.Cause.TheVariants as cause
-use Rattle.clearview.specs.Words.{Command, Plain, Check, Infer, command_of}
+use Rattle.clearview.specs.Words.{Command, Plain, Check, Infer, Run, command_of}
 
 abbrev pub Verdict : Type 0
 Verdict = Result (List ℕ) Cause
@@ -59,6 +61,7 @@ verdict_by (Some (Plain image budget input)) file =
     and_then (image_in (file image)) (λ (picture : Picture). Ok (plain_text picture input budget))
 verdict_by (Some (Check job)) file = and_then (plan_in file job) (λ (plan : PlanOf). Ok (check_text plan))
 verdict_by (Some (Infer job)) file = and_then (plan_in file job) (λ (plan : PlanOf). Ok (infer_text plan))
+verdict_by (Some (Run job)) file = and_then (plan_in file job) (λ (plan : PlanOf). Ok (report plan (serial plan)))
 
 abbrev pub verdict_of : List (List ℕ) → (List ℕ → Option (List ℕ)) → Verdict
 verdict_of words file = verdict_by (command_of words) file

@@ -10,6 +10,7 @@ pub data Command : Type 0 where
   Plain : List ℕ → ℕ → List ℕ → Command  -- image's name, budget, input
   Check : List ℕ → Command  -- job's name
   Infer : List ℕ → Command  -- job's name
+  Run : List ℕ → Command  -- job's name
 
 -- a file's name: not empty, and does not begin with `-`
 abbrev pub is_name : List ℕ → Bool
@@ -48,6 +49,7 @@ job_command name job =
     if not (is_name job) then None
     else if bytes_eq name (codes "check") then Some (Check job)
     else if bytes_eq name (codes "infer") then Some (Infer job)
+    else if bytes_eq name (codes "run") then Some (Run job)
     else None
 
 abbrev pub command_of : List (List ℕ) → Option Command
@@ -61,9 +63,16 @@ files_named None = 0
 files_named (Some (Plain image budget input)) = 1
 files_named (Some (Check job)) = 2
 files_named (Some (Infer job)) = 2
+files_named (Some (Run job)) = 2
 
 -- an input has at most 65,536 bytes
 abbrev pub IsShort : Command → Type 0
 IsShort (Plain image budget input) = length input ≤ 65536
 IsShort (Check job) = Unit {0}
 IsShort (Infer job) = Unit {0}
+IsShort (Run job) = Unit {0}
+
+-- the job's name of a command that runs a job
+abbrev pub run_job : Option Command → Option (List ℕ)
+run_job (Some (Run job)) = Some job
+run_job _ = None

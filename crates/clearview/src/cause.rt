@@ -2,6 +2,7 @@ ghost use Rattle.std.specs.Prelude.{◌≡◌};
 ghost use Rattle.clearview.specs.Causes.{status_of};
 
 use cv_base::{ImageFail, ImageFault, NoMemory};
+use cv_core::Book;
 use cv_edge::FetchFail;
 use cv_job::{JobFail, JobFault};
 use std::fmt;
@@ -49,11 +50,13 @@ impl Cause {
     }
 }
 
-/// How a call ended, with the exit status of the program.
-#[derive(Clone, Copy, Debug, PartialEq, Eq)]
+/// How a call ended, with the exit status of the program and, where a job was run and its report
+/// made, the book of its runs.
+#[derive(Drop)]
 pub struct Finish {
     pub status: u8,
     pub cause: Cause,
+    pub book: Option<Book>,
 }
 
 impl fmt::Display for Cause {

@@ -4,6 +4,7 @@
 #![tactic(auto)]
 
 mod cause;
+mod clearview;
 mod files;
 mod infer;
 mod plain;
@@ -14,18 +15,18 @@ mod tool;
 mod words;
 
 use cause::Cause;
+use clearview::clearview;
 use cv_edge::{FileStore, StdSink};
 use std::io::ErrorKind;
 use std::process::ExitCode;
 use std::{env, io};
-use tool::tool;
 
 fn main(rt: HostRuntime) -> ExitCode {
     let cause = match words_of(&rt) {
         Ok(words) => {
             let mut store = FileStore::over(&rt);
             let mut sink = StdSink::over(rt.stdout());
-            tool(rt.alloc(), words.as_slice(), &mut store, &mut sink).cause
+            clearview(rt.alloc(), words.as_slice(), &mut store, &mut sink).cause
         }
         Err(cause) => cause,
     };

@@ -4,7 +4,7 @@ ghost use Rattle.clearview.specs.Causes.{status_of, Completes, Ends, Writes, Sil
 ghost use Rattle.clearview.specs.Gives.{GivesText, IsEarly};
 ghost use Rattle.clearview.specs.Verdict.{verdict_of, verdict_by};
 ghost use Rattle.clearview.specs.Views.{command_view};
-ghost use Rattle.clearview.specs.Words.{command_of, files_named, IsShort, Plain, Check, Infer};
+ghost use Rattle.clearview.specs.Words.{command_of, files_named, run_job, IsShort, Plain, Check, Infer};
 
 use crate::cause::{Cause, Finish};
 use crate::files::{image_of, plan_of};
@@ -15,14 +15,16 @@ use crate::words::{Command, read};
 use cv_edge::{Failed, Sink, Store, write_all};
 use std::alloc::Global;
 
-/// Does the command that words are: fetches the files that it names, and writes its text whole
-/// (docs/FORMATS.md, "Causes and statuses").
+/// Does the command that words are, which do not ask to run a job: fetches the files that it names,
+/// and writes its text whole (docs/FORMATS.md, "Causes and statuses").
 pub fn tool<S: Store, K: Sink>(
     alloc: Global,
     words: &[String],
     store: &mut S,
     sink: &mut K,
 ) -> Finish
+    requires { run_job (command_of (map string_bytes words.now)) ≡ None }
+    ensures none { result.book ≡ None }
     ensures status { result.status ≡ status_of result.cause }
     ensures usage { (result.cause ≡ Cause.Usage) ↔ (command_of (map string_bytes words.now) ≡ None) }
     ensures cause { IfSome (S.told store.old) (λ held. Ends (verdict_of (map string_bytes words.now) held.file) result.cause) }
@@ -40,11 +42,12 @@ pub fn tool<S: Store, K: Sink>(
     Finish {
         status: cause.status(),
         cause,
+        book: None,
     }
 }
 
 /// Writes a text whole: Done, or SinkFault where the sink failed.
-fn written<K: Sink>(sink: &mut K, text: &str) -> Cause
+pub(crate) fn written<K: Sink>(sink: &mut K, text: &str) -> Cause
     ensures ends { (result ≡ Cause.Done) ⊎ (result ≡ Cause.SinkFault) }
     ensures writes { Writes (Ok text.now) result (K.written sink.old) (K.written sink.new) }
     ensures fault { HasCause (K.faults sink.old) (K.faults sink.new) (result ≡ Cause.SinkFault) }
@@ -58,6 +61,7 @@ fn written<K: Sink>(sink: &mut K, text: &str) -> Cause
 /// The text of the command that words are, or the cause against it.
 #[tactic(auto, using(crate::proofs::Commands::fetches_none))]
 fn text_of<S: Store>(alloc: Global, words: &[String], store: &mut S) -> Result<String, Cause>
+    requires { run_job (command_of (map string_bytes words.now)) ≡ None }
     ensures gives { IfSome (S.told store.old) (λ held. GivesText (verdict_of (map string_bytes words.now) held.file) result) }
     ensures usage { IsErrOf result Cause.Usage ↔ (command_of (map string_bytes words.now) ≡ None) }
     ensures done { IfErr result (λ c. (c ≢ Cause.Done) × (c ≢ Cause.SinkFault)) }

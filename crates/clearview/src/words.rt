@@ -1,8 +1,8 @@
 ghost use Rattle.std.specs.Prelude.{◌≡◌, ◌↔◌, ◌≤◌, ℕ, List, Ok, Some, None, is_some, length, map, string_bytes, IfOk, IfSome, IsErr, IsSome, IsTrue, if◌then◌else◌};
 ghost use Rattle.std.specs.Char.{is_ascii_hexdigit};
 ghost use Rattle.std.specs.List.{list_all};
-ghost use Rattle.std.specs.Option.{option_map};
-ghost use Rattle.clearview.specs.Words.{command_of, IsShort, job_command, plain_of, is_digit, is_name, number_from, budget_of, input_of};
+ghost use Rattle.std.specs.Option.{option_copied, option_map};
+ghost use Rattle.clearview.specs.Words.{command_of, IsShort, job_command, plain_of, is_digit, is_name, number_from, budget_of, input_of, run_job};
 ghost use Rattle.clearview.specs.Views.{command_view};
 
 use cv_base::{Items, NoMemory};
@@ -35,9 +35,21 @@ pub enum Command<'a> {
     },
 }
 
-/// The command that words are; None where they are none (docs/FORMATS.md, "Words"). Memory is
-/// taken only for the input of a command.
+/// The job that words ask to run; None where they ask for something else (docs/FORMATS.md,
+/// "Words").
+pub fn run_job(words: &[String]) -> Option<&str>
+    ensures { option_copied result ≡ run_job (command_of (map string_bytes words.now)) }
+{
+    match words {
+        [name, job] if name.as_str() == "run" && is_name(job.as_str()) => Some(job.as_str()),
+        _ => None,
+    }
+}
+
+/// The command that words are, which do not ask to run a job; None where they are none
+/// (docs/FORMATS.md, "Words"). Memory is taken only for the input of a command.
 pub fn read<'a>(alloc: Global, words: &'a [String]) -> Result<Option<Command<'a>>, NoMemory>
+    requires { run_job (command_of (map string_bytes words.now)) ≡ None }
     ensures value { IfOk result (λ o. option_map command_view o ≡ command_of (map string_bytes words.now)) }
     ensures short { IfOk result (λ o. IfSome o (λ c. IsShort (command_view c))) }
     ensures memory { IsErr result → IsSome (command_of (map string_bytes words.now)) }
@@ -55,6 +67,7 @@ pub fn read<'a>(alloc: Global, words: &'a [String]) -> Result<Option<Command<'a>
 }
 
 fn job_command<'a>(name: &str, job: &'a str) -> Option<Command<'a>>
+    requires { run_job (job_command name.now job.now) ≡ None }
     ensures value { option_map command_view result ≡ job_command name.now job.now }
     ensures short { IfSome result (λ c. IsShort (command_view c)) }
 {

@@ -1,6 +1,6 @@
 ghost use Rattle.std.specs.Prelude.{◌≡◌, ◌<◌, ◌+◌, [], ◌∷◌, List, length, IfOk};
 ghost use Rattle.cv_base.specs.declared.cases.Case.{Case};
-ghost use Rattle.cv_histories.specs.Scores.{best, fails, has_fired, score, score_with, wins};
+ghost use Rattle.cv_histories.specs.Scores.{best, fails, has_fired, is_fail, score, score_with, wins};
 ghost use Rattle.cv_histories.specs.Seen.{Seen, is_same_failure};
 ghost use Rattle.cv_score.specs.Charged.{HasRepair, StandsFor, is_that};
 ghost use Rattle.cv_score.specs.Counting.{AllCounted, AtMost, counted_with, has_failed, has_won};
@@ -84,6 +84,19 @@ impl Scores {
         })
     }
 
+    /// Equal scores.
+    pub fn copied(&self, alloc: Global) -> Result<Scores, NoMemory>
+        ensures { IfOk result (λ k. k ≡ self.now) }
+    {
+        let counts = Vec::from_slice(alloc, self.counts.as_slice())?;
+        Ok(Scores {
+            case: self.case,
+            id: self.id,
+            charged: self.charged,
+            counts,
+        })
+    }
+
     /// Charges an entry, of which `last_has` is the repair of this case in the table of its last
     /// adopted version. At most 1,024 entries are charged. It takes no memory.
     pub fn charge(&mut self, entry: &Entry, last_has: Option<u32>)
@@ -111,6 +124,14 @@ impl Scores {
         ensures { (c : Case) (past : List Seen) → StandsFor self.now c past → result ≡ fails self.now.case c repair past }
     {
         self.counts[repair as usize].fails
+    }
+
+    /// Whether an entry is a fail of the repair, where `last_has` is the repair of this case in the
+    /// table of the entry's last adopted version.
+    pub fn is_fail(&self, repair: u32, entry: &Entry, last_has: Option<u32>) -> bool
+        ensures { (c : Case) (s : Seen) → c.id ≡ self.now.id → s.entry ≡ entry.now → HasRepair self.now.case s.last last_has → result ≡ is_fail self.now.case c repair s }
+    {
+        has_failed(entry, self.case, self.id, repair as usize, last_has)
     }
 
     /// Wins less fails, and 1 more without a fail.

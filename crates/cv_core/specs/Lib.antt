@@ -1,0 +1,3 @@
+pub mod NewestOf
+pub mod Taken
+pub mod Unfired

@@ -1,0 +1,4 @@
+pub mod Few
+pub mod HexText
+pub mod Lines
+pub mod Parts
