@@ -1,5 +1,5 @@
 use crate::cause::Cause;
-use crate::tool::tool;
+use crate::clearview::clearview;
 use cv_base::{ImageFault, NoMemory};
 use cv_edge::{MemSink, MemStore};
 use std::alloc::Global;
@@ -16,6 +16,17 @@ const SAMPLE: &str =
 
 const SAMPLE_TEXT: &str =
     "job workers 1 checks 2 budget 1000 rounds 2 runs 6\ntext 00010000 13 entry 00010000\n";
+
+/// How the report of the sample ends: the first repair has won, and is installed.
+const SAMPLE_REPORT_END: &str = "\
+repair 0.0 candidate 0 set x6 00010024 wins 1 fails 0 score 2
+repair 0.1 candidate 0 set x6 0001002C wins 0 fails 0 score 1
+repair 0.2 candidate 0 skip wins 0 fails 0 score 1
+repair 0.3 candidate 0 return 00000000 wins 0 fails 0 score 1
+install entry 4 case 0 repair 0
+learned 43
+end
+";
 
 /// Budget, input, words of the text, and what `plain` writes.
 static RUNS: [(&str, &str, &[u32], &str); 31] = [
@@ -282,7 +293,7 @@ fn answer(
 ) -> Result<(Cause, u8, MemSink), NoMemory> {
     let words = words_of(alloc, words)?;
     let mut sink = MemSink::make(alloc, 4000, 1000)?;
-    let finish = tool(alloc, words.as_slice(), store, &mut sink);
+    let finish = clearview(alloc, words.as_slice(), store, &mut sink);
     Ok((finish.cause, finish.status, sink))
 }
 
@@ -418,6 +429,27 @@ fn infer_writes_what_a_learn_run_tells(rt: HostRuntime) -> Result<(), Fail> {
 }
 
 #[test]
+fn run_repairs_a_call_of_no_point(rt: HostRuntime) -> Result<(), Fail> {
+    let mut store = MemStore::make(rt.alloc());
+    store.put("p.bin", &flat_file(rt.alloc(), &CALLER)?)?;
+    store.put("sample", SAMPLE.as_bytes())?;
+    let words = words_of(rt.alloc(), &["run", "sample"])?;
+    let mut sink = MemSink::make(rt.alloc(), 20_000, 4096)?;
+    let finish = clearview(rt.alloc(), words.as_slice(), &mut store, &mut sink);
+    assert_eq!(rt; (finish.cause, finish.status), (Cause::Done, 0));
+    assert!(rt; finish.book.is_some());
+    assert!(rt; sink.bytes().ends_with(SAMPLE_REPORT_END.as_bytes()));
+    // The second write of ten bytes fails: the book is there all the same.
+    let mut sink = MemSink::make(rt.alloc(), 1000, 10)?;
+    sink.fail_on(2)?;
+    let finish = clearview(rt.alloc(), words.as_slice(), &mut store, &mut sink);
+    assert_eq!(rt; (finish.cause, finish.status), (Cause::SinkFault, 7));
+    assert!(rt; finish.book.is_some());
+    assert_eq!(rt; sink.bytes(), b"clearview ".as_slice());
+    Ok(())
+}
+
+#[test]
 fn faults_are_told_apart(rt: HostRuntime) -> Result<(), Fail> {
     // Fetches that fail: the job's, and its image's.
     for failing in [1, 2] {
@@ -436,10 +468,10 @@ fn faults_are_told_apart(rt: HostRuntime) -> Result<(), Fail> {
     let mut sink = MemSink::make(rt.alloc(), 1000, 10)?;
     sink.fail_on(2)?;
     let words = words_of(rt.alloc(), &["check", "sample"])?;
-    let finish = tool(rt.alloc(), words.as_slice(), &mut store, &mut sink);
+    let finish = clearview(rt.alloc(), words.as_slice(), &mut store, &mut sink);
     assert_eq!(rt; (finish.cause, finish.status), (Cause::SinkFault, 7));
     assert_eq!(rt; sink.bytes(), b"job worker".as_slice());
-    let again = tool(rt.alloc(), words.as_slice(), &mut store, &mut sink);
+    let again = clearview(rt.alloc(), words.as_slice(), &mut store, &mut sink);
     assert_eq!(rt; (again.cause, again.status), (Cause::Done, 0));
     assert_eq!(rt; &sink.bytes()[10..], SAMPLE_TEXT.as_bytes());
     Ok(())

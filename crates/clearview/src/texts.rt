@@ -6,6 +6,7 @@ ghost use Rattle.clearview.specs.CheckText.{check_text, text_line};
 
 use cv_base::{Address, End, Image, NoMemory, Plan};
 use cv_job::job_line;
+use cv_report::bytes_text;
 use std::alloc::Global;
 
 /// What `check` writes of a plan (docs/FORMATS.md, "Texts of the commands").
@@ -32,15 +33,4 @@ pub fn run_text(alloc: Global, end: End, turns: u32, output: &[u8]) -> Result<St
 {
     let output = bytes_text(alloc, output)?;
     Ok(format!(in alloc; "end {end}\nturns {turns}\noutput {output}\n")?)
-}
-
-/// Bytes as lower-case hexadecimal digits, `-` where there is none.
-#[tactic(auto, using(crate::proofs::HexText::encoded))]
-fn bytes_text(alloc: Global, bytes: &[u8]) -> Result<String, NoMemory>
-    ensures { IfOk result (λ s. string_bytes s ≡ bytes_text bytes.now) }
-{
-    if bytes.is_empty() {
-        return Ok(String::from_str(alloc, "-")?);
-    }
-    Ok(hex::encode(alloc, bytes)?)
 }

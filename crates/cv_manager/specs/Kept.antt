@@ -1,26 +1,22 @@
 -- What a manager keeps of a plan and a history, and what one more entry makes of it
 -- (docs/REPAIR.md, "Histories").
-use Rattle.std.specs.Prelude.{◌≡◌, ◌≤◌, ◌<◌, ℕ, true, false, if◌then◌else◌, List, [], ◌∷◌, ◌++◌, ◌+◌, length, map, Option, Some, None, option_map, vec_capacity}
-use Rattle.std.specs.List.{AllByRecursion, list_all}
+use Rattle.std.specs.Prelude.{◌≡◌, ◌≤◌, false, if◌then◌else◌, List, ◌∷◌, ◌++◌, ◌+◌, length, map, Option, Some, None, option_map, vec_capacity}
+use Rattle.std.specs.List.{AllByRecursion}
 use Rattle.cv_base.specs.declared.entries.Entry.{Entry}
-use Rattle.cv_base.specs.declared.cases.Case.{Case}
-use Rattle.cv_base.specs.declared.cases.Change.{Change}
-use Rattle.cv_base.specs.Picture.{is_point}
-use Rattle.cv_base.specs.PlanOf.{IsPlan, PlanOf}
+use Rattle.cv_base.specs.PlanOf.{IsPlan}
 use Rattle.cv_base.specs.WellFormed.{IsImage}
 use Rattle.cv_blocks.specs.TextMap.{text_only}
 use Rattle.cv_histories.specs.Cases.{cases, opened_by}
 use Rattle.cv_histories.specs.declared.TheConstants.{MOST_CASES}
 use Rattle.cv_histories.specs.Installed.{changes}
 use Rattle.cv_histories.specs.Report.{makers}
-use Rattle.cv_histories.specs.Runs.{run_at, runs}
-use Rattle.cv_histories.specs.Seen.{Seen, is_live, is_observed, last_version, live_failure, observed, observed_of, table_at}
+use Rattle.cv_histories.specs.Seen.{Seen, is_observed, last_version, live_failure, observed, table_at}
 use Rattle.cv_histories.specs.Versions.{Ledger, ledger, newest_of, same_table, table}
 use Rattle.cv_manager.specs.declared.kept.Kept.{Kept}
 use Rattle.cv_manager.specs.declared.kept.Next.{Next}
-use Rattle.cv_manager.specs.declared.TheConstants.{MOST_ENTRIES, MOST_VERSIONS}
+use Rattle.cv_manager.specs.declared.TheConstants.{MOST_VERSIONS}
 use Rattle.cv_manager.specs.Journal.{entries_of}
-use Rattle.cv_manager.specs.Progress.{ProgressOf, StandFrom}
+use Rattle.cv_manager.specs.Progress.{StandFrom}
 use Rattle.cv_manager.specs.Tables.{IsCase, opened_list}
 use Rattle.cv_observe.specs.StandsFor.{StandsFor, SummaryOf}
 use Rattle.cv_runs.specs.PatchedRun.{Table}
