@@ -1,3 +1,3 @@
-pub mod Kept
+mod Kept
 mod Placing
 mod Sites

@@ -10,7 +10,7 @@ ghost use Rattle.cv_observe.specs.StandsFor.{StandsFor};
 
 use cv_base::{NoMemory, Plan};
 use cv_exec::{Record, unfired_is_plain};
-use cv_manager::Manager;
+use cv_manager::{Manager, sites_are_points};
 use cv_observe::Summary;
 use std::alloc::Global;
 use std::marker::Model;
@@ -88,6 +88,7 @@ impl Book {
             return Err(Unbooked { outcome });
         };
         keeps_image(self.manager.plan());
+        sites_are_points();
         match self.manager.post(alloc, entry, summary) {
             Ok(version) => Ok(version),
             Err(_) => Err(Unbooked { outcome }),

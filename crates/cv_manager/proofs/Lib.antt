@@ -1,4 +1,5 @@
 pub mod ByNumber
+pub mod CaseLimits
 pub mod Choosing
 pub mod Committing
 pub mod DecidedCase

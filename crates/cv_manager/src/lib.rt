@@ -6,11 +6,13 @@ mod decided;
 mod journal;
 mod judging;
 mod kept;
+mod laws;
 mod manager;
 mod posting;
 mod progress;
 mod tables;
 
+pub use laws::sites_are_points;
 pub use manager::{Manager, Unkept};
 
 /// The most entries of a history: a plan has no more runs.

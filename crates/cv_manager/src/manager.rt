@@ -1,5 +1,9 @@
-ghost use Rattle.std.specs.Prelude.{◌≡◌, ◌<◌, ◌≤◌, Some, length, map, min, option_copied, reverse, slice_get, IfErr, IfOk, OnErr, OnOk};
+ghost use Rattle.std.specs.List.{list_all};
+ghost use Rattle.std.specs.Prelude.{◌≡◌, ◌<◌, ◌≤◌, true, Some, length, map, min, option_copied, reverse, slice_get, IfErr, IfOk, OnErr, OnOk};
 ghost use Rattle.cv_base.specs.declared.cases.Case.{Case};
+ghost use Rattle.cv_base.specs.declared.invariants.Invariant.{Invariant};
+ghost use Rattle.cv_base.specs.Invariants.{is_invariant};
+ghost use Rattle.cv_base.specs.Picture.{is_point};
 ghost use Rattle.cv_histories.specs.Classes.{checked_failures, class_of};
 ghost use Rattle.cv_histories.specs.Installed.{changes, installed};
 ghost use Rattle.cv_histories.specs.Report.{makers};
@@ -9,6 +13,7 @@ ghost use Rattle.cv_histories.specs.Seen.{learned_of};
 ghost use Rattle.cv_manager.specs.MayPost.{MayPost};
 ghost use Rattle.cv_manager.specs.ManagerOf.{case_in, cases_in, empty_manager, ledger_in, seen_in, version_added, with_entry};
 ghost use Rattle.cv_manager.specs.Progress.{DecidesIf, Stands};
+ghost use Rattle.cv_runs.specs.Invariants.{point_of};
 ghost use Rattle.cv_score.specs.Charged.{StandsFor};
 
 use crate::decided::Decided;
@@ -129,10 +134,13 @@ impl Manager {
         self.kept.cases.len() as u32
     }
 
-    /// A case, numbered from 0 in the order of opening.
+    /// A case, numbered from 0 in the order of opening. It has at most 64 candidates, each at a point.
     pub fn case(&self, index: u32) -> &Case
         requires { index < length (cases_in self.now) }
-        ensures { Some result.now ≡ case_in self.now index }
+        ensures value { Some result.now ≡ case_in self.now index }
+        ensures kinds { list_all is_invariant result.now.candidates ≡ true }
+        ensures points { list_all (λ (k : Invariant). is_point self.now.plan.image (point_of k)) result.now.candidates ≡ true }
+        ensures few { length result.now.candidates ≤ 64 }
     {
         &self.kept.cases[index as usize]
     }
@@ -184,11 +192,14 @@ impl Manager {
         decided.classes.get(candidate as usize).copied()
     }
 
-    /// The repairs of a case; none before the last checked failure that counts.
+    /// The repairs of a case, at most six for each candidate; none before the last checked failure that
+    /// counts.
     pub fn repairs(&self, case: u32) -> &[Repair]
         requires { case < length (cases_in self.now) }
-        ensures { (of : Case) → case_in self.now case ≡ Some of → result.now ≡ repairs_of self.now.plan case of (seen_in self.now) }
+        ensures value { (of : Case) → case_in self.now case ≡ Some of → result.now ≡ repairs_of self.now.plan case of (seen_in self.now) }
+        ensures few { length result.now ≤ 384 }
     {
+        let _of = self.case(case);
         match self.decided(case) {
             Some(decided) => decided.repairs.as_slice(),
             None => &[],

@@ -1,4 +1,3 @@
-pub mod Few
 pub mod HexText
 pub mod Lines
 pub mod Parts

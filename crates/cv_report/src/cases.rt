@@ -1,4 +1,4 @@
-ghost use Rattle.std.specs.Prelude.{◌≡◌, ◌<◌, ◌++◌, length, string_bytes, IfOk, OnOk};
+ghost use Rattle.std.specs.Prelude.{◌≡◌, ◌<◌, ◌≤◌, ◌++◌, length, string_bytes, IfOk, OnOk};
 ghost use Rattle.cv_histories.specs.Installed.{is_dropped};
 ghost use Rattle.cv_histories.specs.Repairs.{repairs_of};
 ghost use Rattle.cv_histories.specs.Report.{candidate_lines, case_line, case_lines, line, repair_lines, state_text};
@@ -29,7 +29,8 @@ fn add_case(
     case: &Case,
     text: &mut String,
 ) -> Result<(), NoMemory>
-    requires { IsCase manager.now index case.now }
+    requires case { IsCase manager.now index case.now }
+    requires few { length case.now.candidates ≤ 64 }
     ensures { OnOk result (string_bytes text.new ≡ string_bytes text.old ++ lines_of_case manager.now index case.now) }
 {
     let line = case_line(alloc, manager, index, case)?;
@@ -93,7 +94,8 @@ fn add_candidates(
     case: &Case,
     text: &mut String,
 ) -> Result<(), NoMemory>
-    requires { IsCase manager.now index case.now }
+    requires case { IsCase manager.now index case.now }
+    requires few { length case.now.candidates ≤ 64 }
     ensures { OnOk result (string_bytes text.new ≡ string_bytes text.old ++ candidate_lines manager.now.plan index case.now (seen_in manager.now) 0 case.now.candidates) }
 {
     for (number, candidate) in case.candidates.as_slice().iter().enumerate() {

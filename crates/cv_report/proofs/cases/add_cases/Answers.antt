@@ -8,4 +8,4 @@ use Rattle.cv_report.proofs.cases.add_cases.Goals as goal
 pub loop-index-preserved : goal.loop-index-preserved
 loop-index-preserved c =
     one_more (case_lines c.args.manager.now.plan (seen_in c.args.manager.now)) (cases_in c.args.manager.now) c.loop-index.index c.case-case.result.now
-    (lines_of_case c.args.manager.now c.loop-index.index c.case-case.result.now) _ _ _ (sym c.case-case.ensures) refl c.loop-index.invariant c.in_ok-add_case.ensures
+    (lines_of_case c.args.manager.now c.loop-index.index c.case-case.result.now) _ _ _ (sym c.case-case.ensures.value) refl c.loop-index.invariant c.in_ok-add_case.ensures
