@@ -12,7 +12,6 @@ pub mod Runs
 pub mod Scores
 pub mod Seen
 pub mod Serial
-pub mod SerialLegal
 pub mod Texts
 pub mod Versions
 pub mod World

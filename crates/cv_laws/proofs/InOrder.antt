@@ -1,0 +1,56 @@
+-- Histories of the runs below a number, in order.
+use Rattle.std.proofs.Common.{◌≡◌, ◌<◌, ◌≤◌, ◌+◌, ℕ, List, [], ◌∷◌, length, refl, ap, ⊎_elim, arith}
+use Rattle.std.proofs.lemmas.Bool.{cases_lt}
+use Rattle.std.proofs.lemmas.List.Elements.{Contains-append_right}
+use Rattle.std.specs.Prelude.{map, Contains}
+use Rattle.std.specs.List.{AllByRecursion}
+use Rattle.cv_base.specs.declared.entries.Entry.{Entry}
+use Rattle.cv_base.specs.PlanOf.{PlanOf}
+use Rattle.cv_histories.specs.Legal.{IsWhole}
+use Rattle.cv_histories.specs.Runs.{runs}
+use Rattle.cv_histories.specs.Seen.{Seen}
+use Rattle.cv_histories.specs.Versions.{ledger}
+
+-- the runs of these entries are those below k, the last one first
+abbrev pub AreBelow : ℕ → List Entry → Type 0
+AreBelow k [] = k ≡ 0
+AreBelow k (e ∷ past) = (k ≡ e.run + 1) × AreBelow e.run past
+
+-- so no entry has a higher run
+pub all_below : (n k : ℕ) (past : List Entry) → AreBelow k past → k ≤ n → AllByRecursion (λ (o : Entry). o.run < n) past
+all_below n k [] are few = tt
+all_below n k (o ∷ past) are few =
+    let next = are.0 in
+    (omega arith, all_below n o.run past are.1 (omega arith))
+
+-- ---- each of them has an entry
+
+-- a run has an entry in a history
+abbrev pub HasEntry : ℕ → List Entry → Type 0
+HasEntry number past = (e : Entry) × Contains past e × (e.run ≡ number)
+
+-- the newest entry, and one of those before it
+has_first : (number : ℕ) (o : Entry) (past : List Entry) → o.run ≡ number → HasEntry number (o ∷ past)
+has_first number o past is = (o, (0, omega arith, refl), is)
+
+has_later : (number : ℕ) (o : Entry) (past : List Entry) → HasEntry number past → HasEntry number (o ∷ past)
+has_later number o past has = (has.0, Contains-append_right (o ∷ []) past has.0 has.1, has.2)
+
+-- every run below k has one
+pub has_entry : (k number : ℕ) (past : List Entry) → AreBelow k past → number < k → HasEntry number past
+has_entry k number [] are below = absurd (omega arith)
+has_entry k number (o ∷ past) are below =
+    let next = are.0 in
+    ⊎_elim (λ less. has_later number o past (has_entry o.run number past are.1 less))
+    (λ above. has_first number o past (omega arith)) (cases_lt number o.run)
+
+-- so with all runs the history is whole
+pub below_is_whole : (plan : PlanOf) (k : ℕ) (past : List Entry) → AreBelow k past → length (runs plan) ≤ k → IsWhole plan past
+below_is_whole plan k past are all number below = has_entry k number past are (omega arith)
+
+-- ---- the entries of a ledger
+
+-- are those of its history
+pub entries_seen : (plan : PlanOf) (past : List Entry) → map (λ (s : Seen). s.entry) (ledger plan past).seen ≡ past
+entries_seen plan [] = refl
+entries_seen plan (e ∷ past) = ap (λ (rest : List Entry). e ∷ rest) (entries_seen plan past)

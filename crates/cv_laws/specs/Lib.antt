@@ -1,0 +1,3 @@
+pub mod Flying
+pub mod Statements
+pub mod WorldStands
