@@ -1,3 +1,2 @@
 pub mod NewestOf
-pub mod Taken
 pub mod Unfired

@@ -1,5 +1,5 @@
 -- One more block entry among the versions that a live run has adopted.
-use Rattle.std.proofs.Common.{◌≡◌, ◌≢◌, ◌<◌, ◌≤◌, ◌+◌, ◌-◌, ℕ, suc, zero, Bool, true, false, List, [], ◌∷◌, ◌++◌, length, get_or, set, Option, Some, None, refl, sym, ap, ◌∙◌, subst, append_assoc, arith, length-append}
+use Rattle.std.proofs.Common.{◌≡◌, ◌≢◌, ◌<◌, ◌≤◌, ◌+◌, ◌-◌, ℕ, suc, Bool, true, false, List, [], ◌∷◌, ◌++◌, length, get_or, set, Option, Some, None, refl, sym, ap, ◌∙◌, subst, append_assoc, arith, length-append}
 use Rattle.std.specs.Prelude.{◌==◌, if◌then◌else◌, replicate, slice_get, IsSome}
 use Rattle.std.specs.List.{AllByRecursion, flat_map}
 use Rattle.std.proofs.lemmas.Bool.Decides.{nat_tests}
@@ -12,6 +12,7 @@ use Rattle.cv_exec.specs.Keeping.{IsNotBelow, is_of_version, last_span, last_tab
 use Rattle.cv_histories.specs.Honest.{AreTables, IsJoined}
 use Rattle.cv_histories.specs.Legal.{NeverFalls}
 use Rattle.cv_histories.specs.Rows.{written}
+use Rattle.cv_laws.proofs.OneRow.{row_tables}
 use Rattle.cv_runs.specs.PatchedRun.{Table}
 
 same_if : (a b : ℕ) → (a == b) ≡ true → a ≡ b
@@ -120,9 +121,6 @@ versions_more P version table spans all is = all_more (λ (s : Span). P s.versio
 abbrev spread : {A : Type 0} → (Span → A) → List Span → List A
 spread g spans = flat_map (λ (s : Span). replicate s.entries (g s)) spans
 
-replicate_more : {A : Type 0} (n : ℕ) (a : A) → replicate (n + 1) a ≡ replicate n a ++ a ∷ []
-replicate_more n a = sym (replicate-append-replicate n 1 a)
-
 abbrev with_one : ℕ → Table → Span
 with_one version table = record { version = version; entries = 1; table = table }
 
@@ -131,7 +129,7 @@ spread_one : {A : Type 0} (g : ℕ → Table → A) (version : ℕ) (table : Tab
     ≡ spread (λ (s : Span). g s.version s.table) (s ∷ []) ++ g version table ∷ []
 spread_one g version table s true test same =
     append-nil (replicate (s.entries + 1) (g s.version s.table))
-    ∙ replicate_more s.entries (g s.version s.table)
+    ∙ sym (replicate-append-replicate s.entries 1 (g s.version s.table))
     ∙ ap (λ a. replicate s.entries (g s.version s.table) ++ a ∷ []) (same (same_if s.version version test))
     ∙ ap (λ l. l ++ g version table ∷ []) (sym (append-nil (replicate s.entries (g s.version s.table))))
 spread_one g version table s false test same =
@@ -220,14 +218,10 @@ rises_more version table (s ∷ t ∷ rest) may rises =
 
 -- ---- the tables of what was adopted
 
-are_with : (versions : List Table) (version : ℕ) (table : Table) (n : ℕ) (vs : List ℕ) (ts : List Table) → slice_get versions version ≡ Some table → AreTables versions vs ts → AreTables versions (replicate n version ++ vs) (replicate n table ++ ts)
-are_with versions version table zero vs ts is rest = rest
-are_with versions version table (suc n) vs ts is rest = (is, are_with versions version table n vs ts is rest)
-
 pub are_tables : (versions : List Table) (spans : List Span) → HaveTables versions spans → AreTables versions (written (rows_of spans)) (tables_of spans)
 are_tables versions [] have = tt
 are_tables versions (s ∷ spans) have =
-    are_with versions s.version s.table s.entries (written (rows_of spans)) (tables_of spans) have.0 (are_tables versions spans have.1)
+    row_tables versions s.version s.table s.entries (written (rows_of spans)) (tables_of spans) have.0 (are_tables versions spans have.1)
 
 there_by : (versions : List Table) (version : ℕ) (table : Table) (s : Span) (b : Bool) → (s.version == version) ≡ b → slice_get versions s.version ≡ Some s.table → (if b then Some s.table else None) ≡ Some table → slice_get versions version ≡ Some table
 there_by versions version table s true test here is = rw (← same_if s.version version test) (here ∙ is)
@@ -241,10 +235,6 @@ there_with versions version table spans (Some s) at have is =
 -- the table of the version that was adopted last is among the versions
 pub there : (versions : List Table) (version : ℕ) (table : Table) (spans : List Span) → HaveTables versions spans → table_if version (last_span spans) ≡ Some table → slice_get versions version ≡ Some table
 there versions version table spans have is = there_with versions version table spans (last_span spans) refl have is
-
-pub at_seam : (tables : List Table) (t : Table) → slice_get (tables ++ t ∷ []) (length tables) ≡ Some t
-at_seam [] t = refl
-at_seam (x ∷ tables) t = at_seam tables t
 
 -- ---- how one entry more is written down
 

@@ -6,27 +6,24 @@ use Rattle.cv_exec.specs.ArenaOf.{Going, adopted_in, entered}
 use Rattle.cv_exec.specs.LiveRun.{HaveTables, MayAdopt, Span, one_entry_more, rows_of}
 use Rattle.cv_exec.specs.Keeping.{IsNotBelow, last_span}
 use Rattle.cv_exec.proofs.Adopting.{have_more, not_below, rises_more, versions_more, written_more}
-use Rattle.cv_exec.proofs.LiveTurned.{in_front}
 use Rattle.cv_histories.specs.Legal.{NeverFalls}
 use Rattle.cv_histories.specs.Rows.{written}
+use Rattle.cv_laws.proofs.Each.{weaker}
+use Rattle.cv_laws.proofs.PatchedSteps.{in_front}
 use Rattle.cv_patch.specs.Adopting.{IsGrown}
 use Rattle.cv_runs.specs.PatchedRun.{Table}
-
-all_of : (P Q : Span → Type 0) (spans : List Span) → ((s : Span) → P s → Q s) → AllByRecursion P spans → AllByRecursion Q spans
-all_of P Q [] then_is all = tt
-all_of P Q (s ∷ spans) then_is all = (then_is s all.0, all_of P Q spans then_is all.1)
 
 -- what an adopter answers is not below what a run has adopted of its answers
 pub above_all : (HasAnswered : ℕ → Type 0) (version : ℕ) (spans : List Span) → ((v : ℕ) → HasAnswered v → v ≤ version) → AllByRecursion (λ (s : Span). HasAnswered s.version) spans → IsNotBelow version (last_span spans)
 above_all HasAnswered version spans rises all =
-    not_below version spans (all_of (λ (s : Span). HasAnswered s.version) (λ (s : Span). s.version ≤ version) spans (λ s is. rises s.version is) all)
+    not_below version spans (weaker (λ (s : Span). HasAnswered s.version) (λ (s : Span). s.version ≤ version) (λ s is. rises s.version is) spans all)
 
 grown_at : (old new : List Table) (version : ℕ) (table : Table) → IsGrown old new → slice_get old version ≡ Some table → slice_get new version ≡ Some table
 grown_at old new version table grown is = rw grown.1 (in_front old grown.0 version table is)
 
 pub have_grown : (old new : List Table) (spans : List Span) → IsGrown old new → HaveTables old spans → HaveTables new spans
 have_grown old new spans grown have =
-    all_of (λ (s : Span). slice_get old s.version ≡ Some s.table) (λ (s : Span). slice_get new s.version ≡ Some s.table) spans (λ s is. grown_at old new s.version s.table grown is) have
+    weaker (λ (s : Span). slice_get old s.version ≡ Some s.table) (λ (s : Span). slice_get new s.version ≡ Some s.table) (λ s is. grown_at old new s.version s.table grown is) spans have
 
 pub grown_on : (a b c : List Table) → IsGrown a b → IsGrown b c → IsGrown a c
 grown_on a b c first second = (first.0 ++ second.0, second.1 ∙ ap (λ l. l ++ second.0) first.1 ∙ append_assoc a first.0 second.0)
@@ -50,7 +47,7 @@ module _ (version : ℕ) (table : Table) (old new : Option Going) (some : IsSome
   answered_after A B C first second answered all =
       rw adopted_is
       (versions_more C version table (adopted_in old)
-      (all_of (λ (s : Span). A s.version) (λ (s : Span). C s.version) (adopted_in old) (λ s here. second s.version (first s.version here)) all)
+      (weaker (λ (s : Span). A s.version) (λ (s : Span). C s.version) (λ s here. second s.version (first s.version here)) (adopted_in old) all)
       (second version answered))
 
   -- the answers, written out

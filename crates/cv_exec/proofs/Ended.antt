@@ -1,7 +1,6 @@
 -- A started run that has ended: its entry is honest.
-use Rattle.std.proofs.Common.{◌≡◌, ◌<◌, ◌≤◌, ℕ, Bool, true, List, [], length, take, Option, Some, None, refl, sym, ap, ◌∙◌, arith}
-use Rattle.std.specs.Prelude.{◌==◌, if◌then◌else◌}
-use Rattle.std.proofs.lemmas.Bool.Decides.{nat_tests}
+use Rattle.std.proofs.Common.{◌≡◌, ◌<◌, ◌≤◌, ℕ, List, [], length, take, Option, Some, None, refl, sym, ap, ◌∙◌, arith}
+use Rattle.std.specs.Prelude.{◌==◌}
 use Rattle.std.proofs.lemmas.List.{length-map, take_all}
 use Rattle.cv_base.specs.declared.ends.End.{End}
 use Rattle.cv_base.specs.declared.entries.Entry.{Entry}
@@ -18,6 +17,7 @@ use Rattle.cv_exec.specs.StandsAt.{IsOver, IsStarted, IsStartedIn, going_of, spa
 use Rattle.cv_exec.proofs.Adopting.{are_tables}
 use Rattle.cv_histories.specs.Honest.{IsHonest, Tells}
 use Rattle.cv_histories.specs.Rows.{sites_in}
+use Rattle.cv_laws.proofs.Flights.{kept_if}
 use Rattle.cv_machine.specs.Held.{Held, state_of}
 use Rattle.cv_observe.specs.StandsFor.{StandsFor, SummaryOf}
 use Rattle.cv_runs.specs.Learned.{observations}
@@ -52,9 +52,6 @@ module _ (plan : PlanOf) (m : Held) (summary : SummaryOf) (g : Started) (end : E
 
 -- ---- a live run
 
-all_adopted : (steps : List PatchedStep) (n : ℕ) → entries_in steps ≡ n → (entries_in steps == n) ≡ true
-all_adopted steps n is = grind (arith, nat_tests)
-
 module _ (plan : PlanOf) (m : Held) (summary : SummaryOf) (g : Started) (p : Patched) (end : End) (is : g.end ≡ Some end) (r : IsLiveStarted plan m summary g p) where
   abbrev begin : State
   begin = start_state plan.image r.run.input
@@ -65,7 +62,7 @@ module _ (plan : PlanOf) (m : Held) (summary : SummaryOf) (g : Started) (p : Pat
   live_ran : patched_run plan.image r.run.input plan.budget (tables_of p.spans.items) ≡ Some r.done
   live_ran =
       ap (only_if (λ (steps : List PatchedStep). entries_in steps == length (tables_of p.spans.items))) live_over.whole
-      ∙ ap (λ (b : Bool). if b then Some r.done else None) (all_adopted r.done (length (tables_of p.spans.items)) live_over.all)
+      ∙ kept_if (entries_in r.done) (length (tables_of p.spans.items)) r.done live_over.all
 
   live_tells : Tells plan r.run.input (steps_of r.done) (live_entry_of r.done p (plain_entry g end m))
   live_tells = record {

@@ -1,7 +1,6 @@
 -- A started live run at its start, after one more block entry, and after one more turn.
-use Rattle.std.proofs.Common.{◌≡◌, ◌<◌, ◌+◌, ◌-◌, ℕ, Bool, true, false, List, [], ◌∷◌, ◌++◌, length, Option, Some, None, refl, sym, ap, ◌∙◌, append_assoc, arith, length-append}
+use Rattle.std.proofs.Common.{◌≡◌, ◌<◌, ◌+◌, ◌-◌, ℕ, Bool, true, false, List, [], ◌∷◌, ◌++◌, length, Option, Some, None, refl, sym, ap, ◌∙◌, length-append}
 use Rattle.std.specs.Prelude.{◌&&◌, not, slice_get}
-use Rattle.std.proofs.lemmas.Iterator.Adapters.{option_map_id}
 use Rattle.cv_base.specs.declared.ends.End.{End}
 use Rattle.cv_base.specs.declared.plan.Mode.TheVariants.{Live}
 use Rattle.cv_base.specs.Picture.{Picture}
@@ -13,25 +12,22 @@ use Rattle.cv_exec.specs.LiveRun.{MayAdopt, is_transfer_in, tables_of}
 use Rattle.cv_exec.specs.Keeping.{EntersAfter, IsEntered, IsFresh, IsKept, IsNoted, IsRefused, last_table, range_of, turned_state, wants_by}
 use Rattle.cv_exec.specs.LiveStands.{IsDue, IsLiveStarted, LiveGoes, Under}
 use Rattle.cv_exec.specs.RunEnds.{end_with}
-use Rattle.cv_exec.proofs.Adopting.{at_seam, joined_more, last_more, rises_more, some_last, tables_more}
+use Rattle.cv_exec.proofs.Adopting.{joined_more, last_more, rises_more, some_last, tables_more}
 use Rattle.cv_exec.proofs.LiveStages.{kept_on, step, turned}
-use Rattle.cv_exec.proofs.LiveTurned.{length_more}
 use Rattle.cv_histories.specs.Rows.{checks_in, firings_in}
 use Rattle.cv_histories.specs.Runs.{Run, run_at}
+use Rattle.cv_laws.proofs.PatchedSteps.{at_seam, grows_entered, grows_first}
 use Rattle.cv_machine.specs.Held.{Held, state_of}
 use Rattle.cv_observe.specs.StandsFor.{StandsFor, SummaryOf}
 use Rattle.cv_runs.specs.BlockEntries.{is_entry, since_next}
-use Rattle.cv_runs.specs.PatchedRun.{PatchedStep, Table, entries_in, notes_of, patched_from, patched_turn}
+use Rattle.cv_runs.specs.PatchedRun.{PatchedStep, Table, entries_in, notes_of, patched_turn}
 use Rattle.cv_runs.specs.State.{State, start_state}
 
 -- ---- at its start
 
 under_first : (image : Picture) (start : State) → Under image start [] [] start None false []
 under_first image start = record {
-  grows = λ n more.
-      let count : 0 + n ≡ n = omega arith in
-      ap (λ (k : ℕ). patched_from image (slice_get more) k start None false 0 []) count
-      ∙ sym (option_map_id (patched_from image (slice_get more) n start None false 0 []));
+  grows = grows_first image start;
   enters = λ rest. refl;
   on = refl;
   ends = λ rest. refl;
@@ -84,7 +80,7 @@ live_first plan m summary g text p run of_plan lives worker turns none some is r
 
 under_entered : (image : Picture) (start : State) (tables : List Table) (table : Table) (done : List PatchedStep) (s : State) (since : Option ℕ) (transferred : Bool) (current : Table) → Under image start tables done s since transferred current → Under image start (tables ++ table ∷ []) done s since transferred current
 under_entered image start tables table done s since transferred current u = record {
-  grows = λ n more. rw (append_assoc tables (table ∷ []) more) (u.grows n (table ∷ more));
+  grows = grows_entered image start tables table (length done) done s since transferred current u.grows;
   enters = u.enters;
   on = u.on;
   ends = u.ends;
@@ -203,7 +199,7 @@ live_gone_on plan old new summary g p q end none still r state ends noted after 
       of_plan = r.of_plan;
       lives = r.lives;
       worker = r.worker;
-      turns = ap (λ n. n + 1) r.turns ∙ sym (length_more r.done next);
+      turns = ap (λ n. n + 1) r.turns ∙ sym (length-append r.done (next ∷ []));
       text = noted.text ∙ r.text;
       kept = kept_on r.done next p q r.kept noted;
       stands = turned plan.image start plan.budget r.done (state_of old) p before still (state_of new) q end state (rw r.turns at ends) noted after;

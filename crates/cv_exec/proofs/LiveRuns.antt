@@ -1,6 +1,7 @@
 -- A started live run: how far it is, one more block entry, one more turn, and its end.
 use Rattle.std.proofs.Common.{◌≡◌, ◌<◌, ◌≤◌, ◌+◌, ℕ, suc, Bool, true, false, List, [], ◌∷◌, length, Option, Some, None, refl, sym, ap, ◌∙◌, subst, arith}
-use Rattle.std.specs.Prelude.{◌==◌, ◌||◌, ◌&&◌, not, is_some, nat_le, slice_get, IsSome}
+use Rattle.std.specs.Prelude.{◌==◌, ◌||◌, ◌&&◌, not, is_some, nat_le, IsSome}
+use Rattle.std.proofs.lemmas.Bool.{and_from, and_parts}
 use Rattle.std.proofs.lemmas.Bool.Decides.{nat_tests}
 use Rattle.std.proofs.lemmas.List.{append-nil}
 use Rattle.cv_base.specs.declared.ends.End.{End}
@@ -14,11 +15,11 @@ use Rattle.cv_exec.specs.declared.patched.Patched.{Patched}
 use Rattle.cv_exec.specs.LiveRun.{enters_from, enters_next, is_ended, is_whole, live_steps, tables_of, wants_table}
 use Rattle.cv_exec.specs.Keeping.{IsReady, IsUpTo, last_span, last_table, wants_by}
 use Rattle.cv_exec.specs.LiveStands.{IsDue, IsLiveStarted, LiveGoes, LiveOver, LiveStandsAt}
-use Rattle.cv_exec.proofs.LiveTurned.{made_so_far}
+use Rattle.cv_laws.proofs.PatchedSteps.{first_turns, made_so_far}
 use Rattle.cv_machine.specs.Held.{Held, state_of}
 use Rattle.cv_observe.specs.StandsFor.{SummaryOf}
 use Rattle.cv_patch.specs.Counts.{fired_up_to, tally_up_to}
-use Rattle.cv_runs.specs.PatchedRun.{PatchedStep, Table, entries_in, patched_from}
+use Rattle.cv_runs.specs.PatchedRun.{PatchedStep, Table, entries_in}
 use Rattle.cv_runs.specs.State.{State, start_state}
 
 abbrev pub going_live : Started → Patched → Going
@@ -26,28 +27,20 @@ going_live g p = record { run = g.run; worker = g.worker; turns = g.turns; adopt
 
 -- ---- counts
 
-and_both : (a b : Bool) → (a && b) ≡ true → (a ≡ true) × (b ≡ true)
-and_both true b is = (refl, is)
-and_both false b is = cc
-
-both_and : (a b : Bool) → a ≡ true → b ≡ true → (a && b) ≡ true
-both_and true b first second = second
-both_and false b first second = first
-
 at_most : (a n k : ℕ) → n ≤ k → nat_le a n ≡ true → nat_le a k ≡ true
 at_most a n k more is = grind (arith, nat_tests)
 
 tally_rises : (n k : ℕ) (rows : List TallyRow) → n ≤ k → tally_up_to n rows ≡ true → tally_up_to k rows ≡ true
 tally_rises n k [] more all = refl
 tally_rises n k (row ∷ rows) more all =
-    let parts = and_both (nat_le row.checks n) (tally_up_to n rows) all in
-    both_and (nat_le row.checks k) (tally_up_to k rows) (at_most row.checks n k more parts.0) (tally_rises n k rows more parts.1)
+    let parts = and_parts (nat_le row.checks n) (tally_up_to n rows) all in
+    and_from (nat_le row.checks k) (tally_up_to k rows) (at_most row.checks n k more parts.0) (tally_rises n k rows more parts.1)
 
 fired_rises : (n k : ℕ) (rows : List FiredRow) → n ≤ k → fired_up_to n rows ≡ true → fired_up_to k rows ≡ true
 fired_rises n k [] more all = refl
 fired_rises n k (row ∷ rows) more all =
-    let parts = and_both (nat_le row.count n) (fired_up_to n rows) all in
-    both_and (nat_le row.count k) (fired_up_to k rows) (at_most row.count n k more parts.0) (fired_rises n k rows more parts.1)
+    let parts = and_parts (nat_le row.count n) (fired_up_to n rows) all in
+    and_from (nat_le row.count k) (fired_up_to k rows) (at_most row.count n k more parts.0) (fired_rises n k rows more parts.1)
 
 few_with : (b : Bool) (step : PatchedStep) (steps : List PatchedStep) → step.enters ≡ b → entries_in steps ≤ length steps → entries_in (step ∷ steps) ≤ suc (length steps)
 few_with true step steps is few = grind arith
@@ -66,10 +59,10 @@ module _ (plan : PlanOf) (m : Held) (summary : SummaryOf) (g : Started) (p : Pat
   abbrev goes : g.end ≡ None → LiveGoes plan.image start plan.budget r.done (state_of m) p
   goes is = subst (λ (e : Option End). LiveStandsAt plan.image start plan.budget r.done (state_of m) p e) is r.stands
 
-  made_by : (e : Option End) → g.end ≡ e → patched_from plan.image (slice_get (tables_of p.spans.items)) (length r.done) start None false 0 [] ≡ Some r.done
+  made_by : (e : Option End) → g.end ≡ e → first_turns plan.image start (tables_of p.spans.items) (length r.done) ≡ Some r.done
   made_by None is =
       let on : LiveGoes plan.image start plan.budget r.done (state_of m) p = rw is at r.stands in
-      made_so_far plan.image start (tables_of p.spans.items) r.done (state_of m) on.since on.transferred on.current on.under
+      made_so_far plan.image start (tables_of p.spans.items) (length r.done) r.done (state_of m) on.since on.transferred on.current on.under.grows
   made_by (Some end) is =
       let over : LiveOver plan.image start plan.budget r.done (state_of m) p.spans.items end = rw is at r.stands in
       over.made

@@ -1,6 +1,7 @@
 -- A started live run: after one more turn, and at its end.
-use Rattle.std.proofs.Common.{◌≡◌, ◌<◌, ◌+◌, ◌-◌, ℕ, suc, Bool, true, false, List, [], ◌∷◌, ◌++◌, length, Option, Some, None, refl, sym, ap, ◌∙◌, subst, arith}
+use Rattle.std.proofs.Common.{◌≡◌, ◌<◌, ◌+◌, ◌-◌, ℕ, suc, Bool, true, false, List, [], ◌∷◌, ◌++◌, length, Option, Some, None, refl, sym, ap, ◌∙◌, subst, arith, length-append}
 use Rattle.std.specs.Prelude.{◌==◌, ◌||◌, ◌&&◌, not, if◌then◌else◌, slice_get}
+use Rattle.std.proofs.lemmas.Bool.{eq-eqb, or_right}
 use Rattle.std.proofs.lemmas.Bool.Decides.{nat_tests}
 use Rattle.std.proofs.lemmas.Grind.{flat_map-append}
 use Rattle.std.proofs.lemmas.List.{append-nil}
@@ -12,14 +13,16 @@ use Rattle.cv_exec.specs.LiveRun.{is_end, is_ended, is_transfer_in, tables_of}
 use Rattle.cv_exec.specs.Keeping.{EntersAfter, IsKept, IsNoted, IsReady, last_table, patched_state, turned_state, wants_by}
 use Rattle.cv_exec.specs.LiveStands.{IsDue, LiveGoes, LiveOver, LiveStandsAt, Under}
 use Rattle.cv_exec.specs.RunEnds.{end_sites, end_with}
-use Rattle.cv_exec.proofs.LiveTurned.{goes_on, is_ended-seam, length_more, made_so_far, step_with, steps_of-append, stops, table_at, entries_in-seam, leaves_in}
+use Rattle.cv_exec.proofs.LiveTurned.{goes_on, is_ended-seam, leaves_in, steps_of-append}
+use Rattle.cv_exec.proofs.NoFirings.{firings-append}
 use Rattle.cv_exec.proofs.Patching.{end_sites_kept}
 use Rattle.cv_exec.proofs.Turned.{sites_by}
 use Rattle.cv_histories.specs.Rows.{checks_in, firings_in, sites_at_end, sites_in}
+use Rattle.cv_laws.proofs.PatchedSteps.{entries_in-seam, first_turns, made_so_far, step_with, stops, table_at}
 use Rattle.cv_machine.specs.Answers.{left_by}
 use Rattle.cv_runs.specs.Apply.{Checked, Fired, Note}
 use Rattle.cv_runs.specs.BlockEntries.{is_entry, since_next}
-use Rattle.cv_runs.specs.PatchedRun.{PatchedStep, Table, entries_in, notes_of, patched_from, patched_turn, steps_of}
+use Rattle.cv_runs.specs.PatchedRun.{PatchedStep, Table, entries_in, notes_of, patched_turn, steps_of}
 use Rattle.cv_runs.specs.PlainRun.{Step, end_after, end_of}
 use Rattle.cv_runs.specs.State.{State, Outcome, Next, Ended}
 
@@ -30,11 +33,6 @@ checks_in-append [] b = refl
 checks_in-append (Checked case index held ∷ a) b = ap (λ l. record { case = case; index = index; held = held } ∷ l) (checks_in-append a b)
 checks_in-append (Fired case index ∷ a) b = checks_in-append a b
 
-firings_in-append : (a b : List Note) → firings_in (a ++ b) ≡ firings_in a ++ firings_in b
-firings_in-append [] b = refl
-firings_in-append (Checked case index held ∷ a) b = firings_in-append a b
-firings_in-append (Fired case index ∷ a) b = ap (λ l. record { case = case; index = index } ∷ l) (firings_in-append a b)
-
 notes_more : (done : List PatchedStep) (step : PatchedStep) → notes_of (done ++ step ∷ []) ≡ notes_of done ++ step.notes
 notes_more done step =
     flat_map-append (λ (s : PatchedStep). s.notes) done (step ∷ []) ∙ ap (λ l. notes_of done ++ l) (append-nil step.notes)
@@ -43,7 +41,7 @@ checks_more : (done : List PatchedStep) (step : PatchedStep) → checks_in (note
 checks_more done step = sym (ap checks_in (notes_more done step) ∙ checks_in-append (notes_of done) step.notes)
 
 firings_more : (done : List PatchedStep) (step : PatchedStep) → firings_in (notes_of done) ++ firings_in step.notes ≡ firings_in (notes_of (done ++ step ∷ []))
-firings_more done step = sym (ap firings_in (notes_more done step) ∙ firings_in-append (notes_of done) step.notes)
+firings_more done step = sym (ap firings_in (notes_more done step) ∙ firings-append (notes_of done) step.notes)
 
 -- what is kept through one more turn
 pub kept_on : (done : List PatchedStep) (step : PatchedStep) (old new : Patched) → IsKept done old → IsNoted (record { notes = step.notes; outcome = step.outcome }) old new → IsKept (done ++ step ∷ []) new
@@ -69,10 +67,6 @@ set_for true false tables made current last still due = cc
 set_for false true tables made current last still due = cc
 set_for false false tables made current last still due = record { due = ap Some due.0; all = sym due.1 }
 
-all_counted : (b : Bool) (n m : ℕ) → n ≡ m → (b || (n == m)) ≡ true
-all_counted true n m is = refl
-all_counted false n m is = grind (arith, nat_tests)
-
 sites_budget : (done : List Step) → end_of done ≡ Budget → (s : State) → sites_in done ≡ end_sites Budget s.core
 sites_budget done is s = ap (λ e. sites_at_end e done) is
 
@@ -97,20 +91,19 @@ module _ (image : Picture) (start : State) (budget : ℕ) (done : List PatchedSt
   over_by : (end : End) → (patched_turn image table s).outcome ≡ Ended end → LiveOver image start budget (done ++ step ∷ []) (patched_state image table s) p.spans.items end
   over_by end is =
       let below = g.below in
-      let count : length (done ++ step ∷ []) ≡ length done + 1 = length_more done step in
-      let all_turns : budget ≡ length done + suc (budget - (length done + 1)) = omega arith in
-      let made_turns : length (done ++ step ∷ []) ≡ length done + suc 0 = omega arith in
-      let run = λ (k : ℕ). patched_from image (slice_get tables) k start None false 0 [] in
-      let stop = λ (n : ℕ). stops image start tables done s g.since g.transferred g.current table g.under set.due n end is in
+      let count : length (done ++ step ∷ []) ≡ length done + 1 = length-append done (step ∷ []) in
+      let all_turns : budget ≡ suc (length done) + (budget - (length done + 1)) = omega arith in
+      let made_turns : length (done ++ step ∷ []) ≡ suc (length done) + 0 = omega arith in
+      let stop = λ (n : ℕ). stops image start tables (length done) done s g.since g.transferred g.current table g.under.grows set.due n end is in
       let ends : end_of (steps_of (done ++ step ∷ [])) ≡ end = g.under.ends (step ∷ []) ∙ ap (end_after Budget) is in
       record {
-        whole = ap run all_turns ∙ stop (budget - (length done + 1));
-        made = ap run made_turns ∙ stop 0;
+        whole = ap (first_turns image start tables) all_turns ∙ stop (budget - (length done + 1));
+        made = ap (first_turns image start tables) made_turns ∙ stop 0;
         over = ap (λ (b : Bool). b || (length (done ++ step ∷ []) == budget)) (is_ended-seam done step ∙ ap is_end is);
         within = omega arith;
         all = all_made;
         ends = ends;
-        leaves = ap (λ (n : State). n.output) (leaves_in image start tables done s g.since g.transferred g.current table g.under set.due (Ended end) is);
+        leaves = ap (λ (n : State). n.output) (leaves_in image start tables done s g.since g.transferred g.current table g.under (Ended end) is);
         sites =
             ap (λ (e : End). sites_at_end e (steps_of (done ++ step ∷ []))) ends
             ∙ ap (sites_at_end end) (steps_of-append done (step ∷ []))
@@ -126,14 +119,14 @@ module _ (image : Picture) (start : State) (budget : ℕ) (done : List PatchedSt
     over_budget : budget - length done ≡ 1 → LiveOver image start budget (done ++ step ∷ []) next p.spans.items Budget
     over_budget last =
         let below = g.below in
-        let count : length (done ++ step ∷ []) ≡ length done + 1 = length_more done step in
+        let count : length (done ++ step ∷ []) ≡ length done + 1 = length-append done (step ∷ []) in
         let all_turns : length (done ++ step ∷ []) ≡ budget = omega arith in
-        let made : patched_from image (slice_get tables) (length (done ++ step ∷ [])) start None false 0 [] ≡ Some (done ++ step ∷ []) = made_so_far image start tables (done ++ step ∷ []) next (since_next (is_entry g.since g.transferred) g.since) transfer table on in
+        let made = made_so_far image start tables (length (done ++ step ∷ [])) (done ++ step ∷ []) next (since_next (is_entry g.since g.transferred) g.since) transfer table on.grows in
         let ends : end_of (steps_of (done ++ step ∷ [])) ≡ Budget = ap (λ (l : List PatchedStep). end_of (steps_of l)) (sym (append-nil (done ++ step ∷ []))) ∙ on.ends [] in
         record {
-          whole = ap (λ (k : ℕ). patched_from image (slice_get tables) k start None false 0 []) (sym all_turns) ∙ made;
+          whole = ap (first_turns image start tables) (sym all_turns) ∙ made;
           made = made;
-          over = all_counted (is_ended (done ++ step ∷ [])) (length (done ++ step ∷ [])) budget all_turns;
+          over = or_right (is_ended (done ++ step ∷ [])) (length (done ++ step ∷ []) == budget) (eq-eqb (length (done ++ step ∷ [])) budget all_turns);
           within = omega arith;
           all = all_made;
           ends = ends;
@@ -144,7 +137,7 @@ module _ (image : Picture) (start : State) (budget : ℕ) (done : List PatchedSt
     -- others follow
     goes_further : (new : Patched) → IsNoted (patched_turn image table s) p new → EntersAfter transfer p new → length done + 1 < budget → LiveGoes image start budget (done ++ step ∷ []) next new
     goes_further new noted after more =
-        let count : length (done ++ step ∷ []) ≡ length done + 1 = length_more done step in
+        let count : length (done ++ step ∷ []) ≡ length done + 1 = length-append done (step ∷ []) in
         let spans : new.spans.items ≡ p.spans.items = ap (λ v. v.items) noted.spans in
         let since : p.rule ≡ since_next (is_entry g.since g.transferred) g.since = g.rule ∙ ap (λ (b : Bool). since_next b g.since) g.enters in
         let ready : IsReady new = record { tally = rw spans noted.tally.ready; fired = rw spans noted.fired.ready } in

@@ -93,7 +93,7 @@ no_firings (f ∷ fs) none =
     (all_distinct (λ (case : ℕ). of_case case (f ∷ fs) ≡ [] → ⊥) cases (each_some (f ∷ fs) (f ∷ fs) (λ case none. none))) none)
 
 -- the firings of appended notes
-firings-append : (xs ys : List Note) → firings_in (xs ++ ys) ≡ firings_in xs ++ firings_in ys
+pub firings-append : (xs ys : List Note) → firings_in (xs ++ ys) ≡ firings_in xs ++ firings_in ys
 firings-append [] ys = refl
 firings-append (Checked case index held ∷ xs) ys = firings-append xs ys
 firings-append (Fired case index ∷ xs) ys = ap (λ (fs : List FiredNote). record { case = case; index = index } ∷ fs) (firings-append xs ys)

@@ -1,24 +1,21 @@
 -- A patched run without a firing makes the steps of the plain run.
-use Rattle.std.proofs.Common.{◌≡◌, ℕ, zero, suc, ◌+◌, Bool, true, false, List, [], ◌∷◌, Option, Some, None, refl, sym, ap, ◌∙◌}
+use Rattle.std.proofs.Common.{◌≡◌, ℕ, zero, suc, ◌+◌, Bool, false, List, [], ◌∷◌, Option, Some, None, refl, sym, ap, ◌∙◌}
 use Rattle.std.specs.Prelude.{◌==◌, if◌then◌else◌, length, option_map, option_and_then, slice_get}
 use Rattle.cv_base.specs.Picture.{Picture}
 use Rattle.cv_exec.proofs.IdlePatches.{plain_turn}
 use Rattle.cv_exec.proofs.NoFirings.{unfired_parts}
-use Rattle.cv_exec.proofs.Turned.{no_turn}
 use Rattle.cv_histories.specs.Rows.{firings_in}
+use Rattle.cv_laws.proofs.OneTable.{kept}
+use Rattle.cv_laws.proofs.PlainSteps.{no_turn, turn_first}
 use Rattle.cv_runs.specs.BlockEntries.{is_entry, since_next}
-use Rattle.cv_runs.specs.PatchedRun.{Table, PatchedTurn, PatchedStep, patched_turn, patched_step, followed, patched_from, entries_in, only_if, patched_run, steps_of, notes_of}
-use Rattle.cv_runs.specs.PlainRun.{Step, steps_from, stepped, plain_run}
+use Rattle.cv_runs.specs.PatchedRun.{Table, PatchedTurn, PatchedStep, patched_turn, patched_step, followed, patched_from, entries_in, patched_run, steps_of, notes_of}
+use Rattle.cv_runs.specs.PlainRun.{Step, steps_from, plain_run}
 use Rattle.cv_runs.specs.PlainTurn.{turn_of}
 use Rattle.cv_runs.specs.State.{State, Outcome, Next, Ended, start_state}
 
 -- what is to be shown of a patched run from the state s on
 abbrev IsPlain : Picture → ℕ → State → Option (List PatchedStep) → Type 0
 IsPlain image budget s run = (steps : List PatchedStep) → run ≡ Some steps → firings_in (notes_of steps) ≡ [] → steps_of steps ≡ steps_from image budget s
-
-first_turn : (image : Picture) (budget : ℕ) (s : State) (o : Outcome) → turn_of image s ≡ o → steps_from image (suc budget) s ≡ stepped s o (steps_from image budget)
-unfolding steps_from
-first_turn image budget s o is = ap (λ o. stepped s o (steps_from image budget)) is
 
 -- a step whose turn is plain where it has no firing, and what follows it
 module _ (image : Picture) (budget : ℕ) (s : State) (enters : Bool) (turn : PatchedTurn) (plain : firings_in turn.notes ≡ [] → turn.outcome ≡ turn_of image s) where
@@ -30,7 +27,7 @@ module _ (image : Picture) (budget : ℕ) (s : State) (enters : Bool) (turn : Pa
       ap steps_of parts
       ∙ ap (λ (o : Outcome). record { before = s; outcome = o } ∷ steps_of later) is
       ∙ ap (λ (l : List Step). record { before = s; outcome = Next next transfer } ∷ l) (rest later refl apart.1)
-      ∙ sym (first_turn image budget s (Next next transfer) (sym (plain apart.0) ∙ is))
+      ∙ sym (turn_first image budget s (Next next transfer) (sym (plain apart.0) ∙ is))
 
   followed_plain : (o : Outcome) (rest : State → Bool → Option (List PatchedStep)) → turn.outcome ≡ o → ((next : State) (transfer : Bool) → IsPlain image budget next (rest next transfer)) → IsPlain image (suc budget) s (followed (patched_step s enters turn) o rest)
   followed_plain (Next next transfer) rest is later steps ran none = mapped_plain (rest next transfer) next transfer is (later next transfer) steps ran none
@@ -39,7 +36,7 @@ module _ (image : Picture) (budget : ℕ) (s : State) (enters : Bool) (turn : Pa
       let apart = unfired_parts turn.notes [] (ap (λ (l : List PatchedStep). firings_in (notes_of l)) (sym parts) ∙ none) in
       let made : steps_of steps ≡ record { before = s; outcome = turn.outcome } ∷ [] = ap steps_of parts in
       let last : steps_of steps ≡ record { before = s; outcome = Ended end } ∷ [] = made ∙ ap (λ (o : Outcome). record { before = s; outcome = o } ∷ []) is in
-      last ∙ sym (first_turn image budget s (Ended end) (sym (plain apart.0) ∙ is))
+      last ∙ sym (turn_first image budget s (Ended end) (sym (plain apart.0) ∙ is))
 
 -- the same under the table that is adopted, or the one at hand
 chosen_plain : (image : Picture) (budget : ℕ) (s : State) (enters : Bool) (rest : Table → State → Bool → Option (List PatchedStep)) → ((table : Table) (next : State) (transfer : Bool) → IsPlain image budget next (rest table next transfer)) → (table : Option Table) → IsPlain image (suc budget) s (option_and_then (λ (t : Table). followed (patched_step s enters (patched_turn image t s)) (patched_turn image t s).outcome (rest t)) table)
@@ -60,18 +57,8 @@ plain_from image tables (suc budget) s since transferred made table steps ran no
     (λ t next transfer. plain_from image tables budget next (since_next enters since) transfer (if enters then made + 1 else made) t)
     (if enters then tables made else Some table) steps ran none
 
--- a run with as many tables as block entries is the run from the start state on
-
-kept_by : {A : Type 0} (b : Bool) (a c : A) → (if b then Some a else None) ≡ Some c → Some a ≡ Some c
-kept_by true a c is = is
-kept_by false a c is = absurd cc
-
-kept : {A : Type 0} (test : A → Bool) (o : Option A) (a : A) → only_if test o ≡ Some a → o ≡ Some a
-kept test None a is = absurd cc
-kept test (Some c) a is = kept_by (test c) c a is
-
 -- a patched run without a firing makes the steps of the plain run
 pub plain_steps : (image : Picture) (input : List ℕ) (budget : ℕ) (tables : List Table) (steps : List PatchedStep) → patched_run image input budget tables ≡ Some steps → firings_in (notes_of steps) ≡ [] → steps_of steps ≡ plain_run image input budget
 plain_steps image input budget tables steps ran none =
     plain_from image (slice_get tables) budget (start_state image input) None false 0 [] steps
-    (kept (λ (steps : List PatchedStep). entries_in steps == length tables) _ steps ran) none
+    (kept (λ (steps : List PatchedStep). entries_in steps == length tables) _ steps ran).0 none

@@ -9,18 +9,11 @@ use Rattle.cv_base.specs.Picture.{Picture}
 use Rattle.cv_exec.specs.RunEnds.{end_with, end_sites}
 use Rattle.cv_exec.specs.StandsAt.{GoesOn, IsOver, StandsAt}
 use Rattle.cv_histories.specs.Rows.{sites_of, sites_at_end, last_sites}
+use Rattle.cv_laws.proofs.PlainSteps.{no_turn, turn_first}
 use Rattle.cv_machine.specs.Answers.{left_by}
 use Rattle.cv_runs.specs.PlainRun.{Step, steps_from, stepped, end_of, state_left}
 use Rattle.cv_runs.specs.PlainTurn.{turn_of}
 use Rattle.cv_runs.specs.State.{State, Outcome, Next, Ended}
-
-first_turn : (image : Picture) (k : ℕ) (s : State) (o : Outcome) → turn_of image s ≡ o → steps_from image (suc k) s ≡ stepped s o (steps_from image k)
-unfolding steps_from
-first_turn image k s o is = ap (λ o. stepped s o (steps_from image k)) is
-
-pub no_turn : (image : Picture) (s : State) → steps_from image 0 s ≡ []
-unfolding steps_from
-no_turn image s = refl
 
 pub last_sites-seam : (done : List Step) (step : Step) → last_sites (done ++ step ∷ []) ≡ sites_of step.before
 last_sites-seam [] step = refl
@@ -31,15 +24,12 @@ pub sites_by : (end : End) (done : List Step) (step : Step) → sites_at_end end
 sites_by (Failure id detail) done step = last_sites-seam done step
 sites_by _ done step = refl
 
-length_more : (done : List Step) (step : Step) → length (done ++ step ∷ []) ≡ length done + 1
-length_more done step = length-append done (step ∷ [])
-
 module _ (image : Picture) (start : State) (budget : ℕ) (done : List Step) (s : State) (g : GoesOn image start budget done s) where
   rest : (o : Outcome) → turn_of image s ≡ o → steps_from image (budget - length done) s ≡ stepped s o (steps_from image (budget - (length done + 1)))
   rest o is =
       let below = g.below in
       let fewer : budget - length done ≡ suc (budget - (length done + 1)) = omega arith in
-      rw fewer (first_turn image (budget - (length done + 1)) s o is)
+      rw fewer (turn_first image (budget - (length done + 1)) s o is)
 
   -- a turn that ends the run
   over_by : (end : End) → turn_of image s ≡ Ended end → IsOver image start budget (done ++ record { before = s; outcome = Ended end } ∷ []) s end
@@ -76,7 +66,7 @@ module _ (image : Picture) (start : State) (budget : ℕ) (done : List Step) (s 
   goes_on next transfer is below =
       let step : Step = record { before = s; outcome = Next next transfer } in
       let steps : steps_from image (budget - length done) s ≡ step ∷ steps_from image (budget - (length done + 1)) next = rest (Next next transfer) is in
-      let count : length (done ++ step ∷ []) ≡ length done + 1 = length_more done step in
+      let count : length (done ++ step ∷ []) ≡ length done + 1 = length-append done (step ∷ []) in
       record {
         below = rw count below;
         parts = rw count (g.parts ∙ ap (λ l. done ++ l) steps ∙ sym (append_assoc done (step ∷ []) _));
@@ -107,8 +97,8 @@ first image start budget s some is =
     rw is record { below = some; parts = rw sub-zero refl; ends = rw sub-zero refl; leaves = rw sub-zero refl }
 
 some_step : (image : Picture) (k : ℕ) (s : State) (o : Outcome) → turn_of image s ≡ o → 0 < length (steps_from image (suc k) s)
-some_step image k s (Next n transfer) is = rw (first_turn image k s (Next n transfer) is) (omega arith)
-some_step image k s (Ended e) is = rw (first_turn image k s (Ended e) is) (omega arith)
+some_step image k s (Next n transfer) is = rw (turn_first image k s (Next n transfer) is) (omega arith)
+some_step image k s (Ended e) is = rw (turn_first image k s (Ended e) is) (omega arith)
 
 -- a run that goes on has more steps than those made
 pub more_steps : (image : Picture) (start : State) (budget : ℕ) (done : List Step) (s : State) → GoesOn image start budget done s → length done < length (steps_from image budget start)
@@ -120,8 +110,8 @@ more_steps image start budget done s g =
     omega (arith, length-append done (steps_from image (budget - length done) s))
 
 steps_within : (image : Picture) (k : ℕ) (s : State) (o : Outcome) → turn_of image s ≡ o → ((n : State) → length (steps_from image k n) < suc k) → length (steps_from image (suc k) s) < suc (suc k)
-steps_within image k s (Next n transfer) is rest = let h : length (steps_from image k n) < suc k = rest n in rw (first_turn image k s (Next n transfer) is) (omega arith)
-steps_within image k s (Ended e) is rest = rw (first_turn image k s (Ended e) is) (omega arith)
+steps_within image k s (Next n transfer) is rest = let h : length (steps_from image k n) < suc k = rest n in rw (turn_first image k s (Next n transfer) is) (omega arith)
+steps_within image k s (Ended e) is rest = rw (turn_first image k s (Ended e) is) (omega arith)
 
 -- no run has more steps than its budget
 pub few_steps : (image : Picture) (budget : ℕ) (s : State) → length (steps_from image budget s) < suc budget

@@ -9,7 +9,7 @@ use Rattle.cv_histories.specs.Runs.{Run, run_at}
 use Rattle.cv_histories.specs.Versions.{ledger}
 use Rattle.cv_histories.specs.World.{Flight, World, begin_with, begun, current_round, next_draw, numbers_of, with_flight}
 use Rattle.cv_laws.specs.WorldStands.{IsAhead, IsFlying, WorldStands}
-use Rattle.cv_laws.proofs.Everywhere.{All-more}
+use Rattle.cv_laws.proofs.Each.{weaker}
 use Rattle.cv_laws.proofs.Flights.{begun_flies}
 use Rattle.cv_laws.proofs.Rounds.{IsOfRound, numbers_are, numbers_rise}
 use Rattle.cv_laws.proofs.Slots.{IsOneOf, set_has, set_length}
@@ -42,9 +42,9 @@ module _ (plan : PlanOf) (w : World) (i : ℕ) (round number : ℕ) (run : Run) 
   new_flying : IsFlying plan w.history i new
   new_flying = record {
     of_plan = of_plan;
-    fresh = All-more (λ (o : Entry). round_of plan o ≡ round → o.run < number) (λ (o : Entry). o.run ≢ number) fresh_entry w.history ahead.posted;
+    fresh = weaker (λ (o : Entry). round_of plan o ≡ round → o.run < number) (λ (o : Entry). o.run ≢ number) fresh_entry w.history ahead.posted;
     current = current ∙ ap Some (sym in_round);
-    rises = All-more (λ (o : Entry). round_of plan o ≡ round → o.run < number) (λ (o : Entry). round_of plan o ≡ run.round → o.worker ≡ i → o.run < number)
+    rises = weaker (λ (o : Entry). round_of plan o ≡ round → o.run < number) (λ (o : Entry). round_of plan o ≡ run.round → o.worker ≡ i → o.run < number)
         (λ o below same worker. below (same ∙ in_round)) w.history ahead.posted;
     falls = tt;
     above_worker = tt;

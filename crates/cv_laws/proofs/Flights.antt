@@ -2,7 +2,7 @@
 use Rattle.std.proofs.Common.{◌≡◌, ◌≤◌, ◌<◌, ◌+◌, ◌-◌, ℕ, suc, Bool, true, false, List, [], ◌∷◌, ◌++◌, length, Some, None, refl, sym, ap, ◌∙◌, subst, arith, length-append}
 use Rattle.std.specs.Prelude.{◌==◌, ◌||◌, ◌&&◌, not, if◌then◌else◌, reverse, slice_get}
 use Rattle.std.specs.List.{AllByRecursion, flat_map}
-use Rattle.std.proofs.lemmas.Bool.{not-true}
+use Rattle.std.proofs.lemmas.Bool.{and_parts, not-true}
 use Rattle.std.proofs.lemmas.Bool.Decides.{nat_tests}
 use Rattle.std.proofs.lemmas.Grind.{flat_map-append}
 use Rattle.std.proofs.lemmas.List.{append-nil, length-map, map-append, reverse-append}
@@ -34,11 +34,6 @@ start_of plan f = start_state plan.image f.run.input
 
 -- ---- tests
 
--- both of two tests pass
-both : (a b : Bool) → (a && b) ≡ true → (a ≡ true) × (b ≡ true)
-both true b is = (refl, is)
-both false b is = cc
-
 -- a mode that passes the test is live
 live_if : (mode : Mode) → is_live mode ≡ true → mode ≡ Live
 live_if Learn is = cc
@@ -51,7 +46,7 @@ goes_by false n budget true test is within = cc
 goes_by false n budget false test is within = (refl, grind (arith, nat_tests))
 
 -- a run that has not ended has turns left
-goes_yet : (plan : PlanOf) (f : Flight) → not (has_ended plan f) ≡ true → length f.steps ≤ plan.budget → (f.over ≡ false) × (length f.steps < plan.budget)
+pub goes_yet : (plan : PlanOf) (f : Flight) → not (has_ended plan f) ≡ true → length f.steps ≤ plan.budget → (f.over ≡ false) × (length f.steps < plan.budget)
 goes_yet plan f is within = goes_by f.over (length f.steps) plan.budget (length f.steps == plan.budget) refl is within
 
 -- ---- at its start
@@ -113,9 +108,9 @@ patched_entered plan l f some at on below first flies =
 -- a run flies after a block entry
 pub entered_flies : (plan : PlanOf) (l : Ledger) (f : Flight) → 1 ≤ length l.versions → may_enter plan f ≡ true → Flies plan l.versions f → Flies plan l.versions (entered_with l f)
 entered_flies plan l f some may flies =
-    let enters = both (not (has_ended plan f) && at_entry f) (not f.entered) may in
-    let goes = both (not (has_ended plan f)) (at_entry f) enters.0 in
-    let lives = live_if f.run.mode (both (is_live f.run.mode) (is_entry f.since f.transferred) goes.1).0 in
+    let enters = and_parts (not (has_ended plan f) && at_entry f) (not f.entered) may in
+    let goes = and_parts (not (has_ended plan f)) (at_entry f) enters.0 in
+    let lives = live_if f.run.mode (and_parts (is_live f.run.mode) (is_entry f.since f.transferred) goes.1).0 in
     let on = goes_yet plan f goes.0 flies.within in
     record {
       of_mode = subst (λ (mode : Mode). FliesBy mode plan l.versions (entered_with l f)) (sym lives)
@@ -247,7 +242,7 @@ turned_by_mode plan versions f Live is on below may flies =
 -- a run flies after a turn
 pub turned_flies : (plan : PlanOf) (versions : List Table) (f : Flight) → may_turn plan f ≡ true → Flies plan versions f → Flies plan versions (turned plan f)
 turned_flies plan versions f may flies =
-    let turns = both (not (has_ended plan f)) (not (at_entry f) || f.entered) may in
+    let turns = and_parts (not (has_ended plan f)) (not (at_entry f) || f.entered) may in
     let on = goes_yet plan f turns.0 flies.within in
     turned_by_mode plan versions f f.run.mode refl on.0 on.1 turns.1 flies.of_mode
 
@@ -280,13 +275,13 @@ length_all : (n budget : ℕ) → (n == budget) ≡ true → n ≡ budget
 length_all n budget is = grind (arith, nat_tests)
 
 -- what is kept where two numbers are equal
-kept_if : {A : Type 0} (a b : ℕ) (x : A) → a ≡ b → (if a == b then Some x else None) ≡ Some x
+pub kept_if : {A : Type 0} (a b : ℕ) (x : A) → a ≡ b → (if a == b then Some x else None) ≡ Some x
 kept_if a b x is =
     let test : (a == b) ≡ true = grind (arith, nat_tests) in
     rw test refl
 
 -- steps without notes have none in all
-notes_none : (steps : List PatchedStep) → AllByRecursion (λ (step : PatchedStep). step.notes ≡ []) steps → notes_of (reverse steps) ≡ []
+pub notes_none : (steps : List PatchedStep) → AllByRecursion (λ (step : PatchedStep). step.notes ≡ []) steps → notes_of (reverse steps) ≡ []
 notes_none [] none = refl
 notes_none (step ∷ steps) none =
     ap notes_of (reverse-append (step ∷ []) steps)

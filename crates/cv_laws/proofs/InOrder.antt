@@ -1,5 +1,5 @@
 -- Histories of the runs below a number, in order.
-use Rattle.std.proofs.Common.{◌≡◌, ◌<◌, ◌≤◌, ◌+◌, ℕ, List, [], ◌∷◌, length, refl, ap, ⊎_elim, arith}
+use Rattle.std.proofs.Common.{◌≡◌, ◌<◌, ◌≤◌, ◌+◌, ℕ, List, [], ◌∷◌, length, refl, sym, ap, ⊎_elim, arith}
 use Rattle.std.proofs.lemmas.Bool.{cases_lt}
 use Rattle.std.proofs.lemmas.List.Elements.{Contains-append_right}
 use Rattle.std.specs.Prelude.{map, Contains}
@@ -10,18 +10,18 @@ use Rattle.cv_histories.specs.Legal.{IsWhole}
 use Rattle.cv_histories.specs.Runs.{runs}
 use Rattle.cv_histories.specs.Seen.{Seen}
 use Rattle.cv_histories.specs.Versions.{ledger}
+use Rattle.cv_laws.specs.InOrder.{AreBelow}
 
--- the runs of these entries are those below k, the last one first
-abbrev pub AreBelow : ℕ → List Entry → Type 0
-AreBelow k [] = k ≡ 0
-AreBelow k (e ∷ past) = (k ≡ e.run + 1) × AreBelow e.run past
-
--- so no entry has a higher run
+-- no entry has a higher run
 pub all_below : (n k : ℕ) (past : List Entry) → AreBelow k past → k ≤ n → AllByRecursion (λ (o : Entry). o.run < n) past
 all_below n k [] are few = tt
 all_below n k (o ∷ past) are few =
     let next = are.0 in
     (omega arith, all_below n o.run past are.1 (omega arith))
+
+-- with an entry of run k they are those below the next number
+pub one_more : (k : ℕ) (past : List Entry) (e : Entry) → e.run ≡ k → AreBelow k past → AreBelow (k + 1) (e ∷ past)
+one_more k past e is are = (ap (λ n. n + 1) (sym is), rw is are)
 
 -- ---- each of them has an entry
 
@@ -30,10 +30,10 @@ abbrev pub HasEntry : ℕ → List Entry → Type 0
 HasEntry number past = (e : Entry) × Contains past e × (e.run ≡ number)
 
 -- the newest entry, and one of those before it
-has_first : (number : ℕ) (o : Entry) (past : List Entry) → o.run ≡ number → HasEntry number (o ∷ past)
+pub has_first : (number : ℕ) (o : Entry) (past : List Entry) → o.run ≡ number → HasEntry number (o ∷ past)
 has_first number o past is = (o, (0, omega arith, refl), is)
 
-has_later : (number : ℕ) (o : Entry) (past : List Entry) → HasEntry number past → HasEntry number (o ∷ past)
+pub has_later : (number : ℕ) (o : Entry) (past : List Entry) → HasEntry number past → HasEntry number (o ∷ past)
 has_later number o past has = (has.0, Contains-append_right (o ∷ []) past has.0 has.1, has.2)
 
 -- every run below k has one

@@ -1,6 +1,5 @@
 pub mod Begins
 pub mod Each
-pub mod Everywhere
 pub mod Flights
 pub mod Goings
 pub mod InOrder

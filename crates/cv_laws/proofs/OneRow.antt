@@ -38,10 +38,10 @@ all_written v (a ∷ rest) all = copies_of v a.entries a.version (written rest) 
 
 -- ---- their tables
 
--- of one row
-pub row_tables : (versions : List Table) (v : ℕ) (t : Table) (n : ℕ) → slice_get versions v ≡ Some t → AreTables versions (replicate n v ++ []) (replicate n t)
-row_tables versions v t zero at = tt
-row_tables versions v t (suc n) at = (at, row_tables versions v t n at)
+-- of one row, in front of others
+pub row_tables : (versions : List Table) (v : ℕ) (t : Table) (n : ℕ) (vs : List ℕ) (ts : List Table) → slice_get versions v ≡ Some t → AreTables versions vs ts → AreTables versions (replicate n v ++ vs) (replicate n t ++ ts)
+row_tables versions v t zero vs ts at are = are
+row_tables versions v t (suc n) vs ts at are = (at, row_tables versions v t n vs ts at are)
 
 -- of versions that are all one: copies of its table
 pub all_tables : (versions : List Table) (v : ℕ) (t : Table) → slice_get versions v ≡ Some t → (ws : List ℕ) (ts : List Table) → AreTables versions ws ts → AllByRecursion (λ (w : ℕ). w ≡ v) ws → AllByRecursion (λ (x : Table). x ≡ t) ts

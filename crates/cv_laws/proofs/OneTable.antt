@@ -10,6 +10,7 @@ use Rattle.cv_base.specs.Picture.{Picture}
 use Rattle.cv_runs.specs.BlockEntries.{is_entry, since_next}
 use Rattle.cv_runs.specs.PatchedRun.{PatchedStep, Table, entries_in, followed, only_if, patched_from, patched_run, patched_step, patched_turn, run_under}
 use Rattle.cv_runs.specs.State.{State, Outcome, Next, Ended, start_state}
+use Rattle.cv_laws.proofs.Each.{all_at}
 
 -- ---- it exists
 
@@ -166,18 +167,13 @@ under_from image tables t all (suc budget) s since transferred made table steps 
     (λ next transfer. under_from image tables t all budget next (since_next enters since) transfer (if enters then made + 1 else made) x))
     table steps ran
 
--- a fact of each by its place
-each_table : (t : Table) (ts : List Table) → AllByRecursion (λ (x : Table). x ≡ t) ts → (k : ℕ) (x : Table) → slice_get ts k ≡ Some x → x ≡ t
-each_table t [] all k x is = absurd cc
-each_table t (y ∷ ts) all zero x is = let first = all.0 in cc
-each_table t (y ∷ ts) all (suc k) x is = each_table t ts all.1 k x is
-
 -- what is kept passed the test
 kept_by : (b : Bool) (a c : List PatchedStep) → (if b then Some a else None) ≡ Some c → (b ≡ true) × (a ≡ c)
 kept_by true a c is = (refl, cc)
 kept_by false a c is = absurd cc
 
-kept : (test : List PatchedStep → Bool) (o : Option (List PatchedStep)) (a : List PatchedStep) → only_if test o ≡ Some a → (o ≡ Some a) × (test a ≡ true)
+-- so a run that is kept was there and passed the test
+pub kept : (test : List PatchedStep → Bool) (o : Option (List PatchedStep)) (a : List PatchedStep) → only_if test o ≡ Some a → (o ≡ Some a) × (test a ≡ true)
 kept test None a is = absurd cc
 kept test (Some c) a is =
     let parts = kept_by (test c) c a is in
@@ -194,7 +190,7 @@ pub copies_under : (image : Picture) (input : List ℕ) (budget : ℕ) (t : Tabl
 copies_under image input budget t ts steps some all ran =
     let start = start_state image input in
     let parts = kept (λ (steps : List PatchedStep). entries_in steps == length ts) (patched_from image (slice_get ts) budget start None false 0 []) steps ran in
-    let under : run_under image input budget t ≡ Some steps = under_from image (slice_get ts) t (each_table t ts all) budget start None false 0 [] steps parts.0 in
+    let under : run_under image input budget t ≡ Some steps = under_from image (slice_get ts) t (λ k x. all_at (λ (x : Table). x ≡ t) ts k x all) budget start None false 0 [] steps parts.0 in
     let runs = runs_under image input budget t some in
     let same : Some runs.steps ≡ Some steps = sym runs.under ∙ under in
     record {

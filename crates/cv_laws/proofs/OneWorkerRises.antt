@@ -1,6 +1,6 @@
--- With one worker, the runs of a legal history rise, and those of a legal and whole history are
--- all runs in order.
-use Rattle.std.proofs.Common.{◌≡◌, ◌≤◌, ◌<◌, ◌+◌, ◌-◌, ℕ, zero, suc, List, [], ◌∷◌, length, Some, refl, ap, ⊎_elim, arith}
+-- Where worker 0 alone takes runs, those of a legal history rise, and those of a legal and whole
+-- history are all runs in order.
+use Rattle.std.proofs.Common.{◌≡◌, ◌≤◌, ◌<◌, ◌+◌, ◌-◌, ℕ, zero, suc, List, [], ◌∷◌, length, Some, refl, sym, ap, ◌∙◌, ⊎_elim, arith}
 use Rattle.std.proofs.lemmas.Bool.{cases_lt}
 use Rattle.std.proofs.lemmas.List.Elements.{Contains-append_cases}
 use Rattle.std.proofs.lemmas.Option.{slice_get_within}
@@ -10,8 +10,9 @@ use Rattle.cv_base.specs.declared.entries.Entry.{Entry}
 use Rattle.cv_base.specs.PlanOf.{PlanOf}
 use Rattle.cv_histories.specs.Legal.{IsLegal, IsWhole, MayFollow, round_in, round_of}
 use Rattle.cv_histories.specs.Runs.{Run, run_at, runs}
+use Rattle.cv_laws.specs.InOrder.{AreBelow, AreByWorkerZero}
 use Rattle.cv_laws.proofs.Each.{of_one, weaker}
-use Rattle.cv_laws.proofs.InOrder.{AreBelow, HasEntry}
+use Rattle.cv_laws.proofs.InOrder.{HasEntry}
 use Rattle.cv_laws.proofs.RunOrder.{earlier_below}
 
 -- ---- runs rise
@@ -26,24 +27,22 @@ none_beyond plan number r at (o ∷ past) legal fresh = (
 )
 
 -- an entry that is not of a later round than the entry that follows it has a lower run
-one_lower : (plan : PlanOf) (past before : List Entry) (e o : Entry) → plan.workers ≡ 1 → (follows : MayFollow plan past e) → MayFollow plan before o → round_of plan o ≤ follows.honest.run.round → (round_of plan o ≡ round_of plan e → o.worker ≡ e.worker → o.run < e.run)
+one_lower : (plan : PlanOf) (past before : List Entry) (e o : Entry) → o.worker ≡ e.worker → (follows : MayFollow plan past e) → MayFollow plan before o → round_of plan o ≤ follows.honest.run.round → (round_of plan o ≡ round_of plan e → o.worker ≡ e.worker → o.run < e.run)
     → o.run < e.run
-one_lower plan past before e o one follows earlier low rises =
+one_lower plan past before e o same follows earlier low rises =
     let r = follows.honest.run in
     let s = earlier.honest.run in
     let round : round_of plan e ≡ r.round = ap round_in follows.honest.of_plan in
     let earlier_round : round_of plan o ≡ s.round = ap round_in earlier.honest.of_plan in
-    let worker = follows.worker in
-    let earlier_worker = earlier.worker in
     ⊎_elim (λ less. earlier_below plan e.run o.run r s follows.honest.of_plan earlier.honest.of_plan less)
-    (λ above. rises (omega arith) (omega arith)) (cases_lt s.round r.round)
+    (λ above. rises (omega arith) same) (cases_lt s.round r.round)
 
 -- so has each entry before it
-all_lower : (plan : PlanOf) (before : List Entry) (e : Entry) → plan.workers ≡ 1 → (follows : MayFollow plan before e) → (past : List Entry) → IsLegal plan past → AllByRecursion (λ (o : Entry). round_of plan o ≤ follows.honest.run.round) past
+all_lower : (plan : PlanOf) (before : List Entry) (e : Entry) → e.worker ≡ 0 → (follows : MayFollow plan before e) → (past : List Entry) → AreByWorkerZero past → IsLegal plan past → AllByRecursion (λ (o : Entry). round_of plan o ≤ follows.honest.run.round) past
     → AllByRecursion (λ (o : Entry). round_of plan o ≡ round_of plan e → o.worker ≡ e.worker → o.run < e.run) past → AllByRecursion (λ (o : Entry). o.run < e.run) past
-all_lower plan before e one follows [] legal low rises = tt
-all_lower plan before e one follows (o ∷ past) legal low rises =
-    (one_lower plan before past e o one follows legal.0 low.0 rises.0, all_lower plan before e one follows past legal.1 low.1 rises.1)
+all_lower plan before e worker follows [] by legal low rises = tt
+all_lower plan before e worker follows (o ∷ past) by legal low rises =
+    (one_lower plan before past e o (by.0 ∙ sym worker) follows legal.0 low.0 rises.0, all_lower plan before e worker follows past by.1 legal.1 low.1 rises.1)
 
 -- each entry has a higher run than all before it, the newest one first
 abbrev Rise : List Entry → Type 0
@@ -51,17 +50,17 @@ Rise [] = Unit {0}
 Rise (e ∷ past) = AllByRecursion (λ (o : Entry). o.run < e.run) past × Rise past
 
 -- a legal history
-legal_rise : (plan : PlanOf) (past : List Entry) → plan.workers ≡ 1 → IsLegal plan past → Rise past
-legal_rise plan [] one legal = tt
-legal_rise plan (e ∷ past) one legal =
+legal_rise : (plan : PlanOf) (past : List Entry) → AreByWorkerZero past → IsLegal plan past → Rise past
+legal_rise plan [] by legal = tt
+legal_rise plan (e ∷ past) by legal =
     let follows = legal.0 in
     let low = none_beyond plan e.run follows.honest.run follows.honest.of_plan past legal.1 follows.fresh in
-    (all_lower plan past e one follows past legal.1 low follows.rises, legal_rise plan past one legal.1)
+    (all_lower plan past e by.0 follows past by.1 legal.1 low follows.rises, legal_rise plan past by.1 legal.1)
 
 -- ---- all runs in order
 
 -- its runs are the plan's
-legal_below : (plan : PlanOf) (past : List Entry) → IsLegal plan past → AllByRecursion (λ (o : Entry). o.run < length (runs plan)) past
+pub legal_below : (plan : PlanOf) (past : List Entry) → IsLegal plan past → AllByRecursion (λ (o : Entry). o.run < length (runs plan)) past
 legal_below plan [] legal = tt
 legal_below plan (e ∷ past) legal = (slice_get_within (runs plan) e.run legal.0.honest.run legal.0.honest.of_plan, legal_below plan past legal.1)
 
@@ -92,5 +91,5 @@ are_below k (e ∷ past) rise below has =
     (count, are_below e.run past rise.1 rise.0 (λ number lower. has_before number e past lower (has number (omega arith))))
 
 -- a legal and whole history has all runs in order
-pub whole_in_order : (plan : PlanOf) (past : List Entry) → plan.workers ≡ 1 → IsLegal plan past → IsWhole plan past → AreBelow (length (runs plan)) past
-whole_in_order plan past one legal whole = are_below (length (runs plan)) past (legal_rise plan past one legal) (legal_below plan past legal) whole
+pub whole_in_order : (plan : PlanOf) (past : List Entry) → AreByWorkerZero past → IsLegal plan past → IsWhole plan past → AreBelow (length (runs plan)) past
+whole_in_order plan past by legal whole = are_below (length (runs plan)) past (legal_rise plan past by legal) (legal_below plan past legal) whole

@@ -42,7 +42,7 @@ abbrev pub table_at : (ℕ → Option Table) → Bool → ℕ → Table → Opti
 table_at tables enters made current = if enters then tables made else Some current
 
 -- a run is its first turn and what follows it
-turn_first : (image : Picture) (tables : ℕ → Option Table) (k : ℕ) (s : State) (since : Option ℕ) (transferred : Bool) (made : ℕ) (current table : Table) (o : Outcome)
+pub turn_first : (image : Picture) (tables : ℕ → Option Table) (k : ℕ) (s : State) (since : Option ℕ) (transferred : Bool) (made : ℕ) (current table : Table) (o : Outcome)
     → table_at tables (is_entry since transferred) made current ≡ Some table → (patched_turn image table s).outcome ≡ o
     → patched_from image tables (suc k) s since transferred made current
     ≡ followed (step_with image table s since transferred) o
@@ -54,12 +54,12 @@ turn_first image tables k s since transferred made current table o due is =
     ∙ ap (λ (o : Outcome). followed (step_with image table s since transferred) o (rest table)) is
 
 -- a run of no turns
-no_turn : (image : Picture) (tables : ℕ → Option Table) (s : State) (since : Option ℕ) (transferred : Bool) (made : ℕ) (table : Table) → patched_from image tables 0 s since transferred made table ≡ Some []
+pub no_turn : (image : Picture) (tables : ℕ → Option Table) (s : State) (since : Option ℕ) (transferred : Bool) (made : ℕ) (table : Table) → patched_from image tables 0 s since transferred made table ≡ Some []
 unfolding patched_from
 no_turn image tables s since transferred made table = refl
 
 -- a table keeps its place where others come behind
-in_front : (xs ys : List Table) (k : ℕ) (t : Table) → slice_get xs k ≡ Some t → slice_get (xs ++ ys) k ≡ Some t
+pub in_front : (xs ys : List Table) (k : ℕ) (t : Table) → slice_get xs k ≡ Some t → slice_get (xs ++ ys) k ≡ Some t
 in_front [] ys zero t is = cc
 in_front [] ys (suc k) t is = cc
 in_front (x ∷ xs) ys zero t is = is

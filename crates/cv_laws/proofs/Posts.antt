@@ -10,7 +10,7 @@ use Rattle.cv_histories.specs.Legal.{EarlierRoundsDone, MayFollow, floor_of, rou
 use Rattle.cv_histories.specs.Versions.{ledger, newest}
 use Rattle.cv_histories.specs.World.{Flight, World, current_round, drawn_after, flight_entry, has_ended, numbers_of, post_with}
 use Rattle.cv_laws.specs.WorldStands.{Has, IsAhead, IsFlying, WorldStands}
-use Rattle.cv_laws.proofs.Everywhere.{All-more}
+use Rattle.cv_laws.proofs.Each.{weaker}
 use Rattle.cv_laws.proofs.Flights.{ended_honest, grown_flies}
 use Rattle.cv_laws.proofs.Rounds.{IsOfRound, current_rises, current_stays, earlier_done, none_later}
 use Rattle.cv_laws.proofs.Slots.{set_has, set_length}
@@ -75,7 +75,7 @@ module _ (plan : PlanOf) (history : List Entry) (e : Entry) (j : ℕ) (g : Fligh
     falls = flying.falls;
     above_worker = subst (λ (n : ℕ). AllByRecursion (λ (v : ℕ). n ≤ v) g.versions) (sym worker_floor) flying.above_worker;
     above_rounds = subst (λ (n : ℕ). AllByRecursion (λ (v : ℕ). n ≤ v) g.versions) (sym rounds_floor) flying.above_rounds;
-    at_most_newest = All-more (λ (v : ℕ). v ≤ newest plan history) (λ (v : ℕ). v ≤ newest plan (e ∷ history)) (λ v below. le_trans below (newest_grows plan history e)) g.versions flying.at_most_newest;
+    at_most_newest = weaker (λ (v : ℕ). v ≤ newest plan history) (λ (v : ℕ). v ≤ newest plan (e ∷ history)) (λ v below. le_trans below (newest_grows plan history e)) g.versions flying.at_most_newest;
     flies = grown_flies plan (ledger plan history).versions (ledger plan (e ∷ history)).versions g (tables_stay plan history e) flying.flies;
   }
 
@@ -124,7 +124,7 @@ module _ (plan : PlanOf) (w : World) (i : ℕ) (f : Flight) (stands : WorldStand
   ahead_later round number now later = record {
     posted = (
       λ same. let there : round_of plan new ≡ f.run.round = entry_round plan w.history i f mine in absurd (omega arith),
-      All-more (λ (o : Entry). round_of plan o ≤ f.run.round) (λ (o : Entry). round_of plan o ≡ round → o.run < number) (λ o below same. absurd (omega arith)) w.history
+      weaker (λ (o : Entry). round_of plan o ≤ f.run.round) (λ (o : Entry). round_of plan o ≡ round → o.run < number) (λ o below same. absurd (omega arith)) w.history
           (none_later plan w.history f.run.round stands.legal mine.current),
     );
     flying = λ j g there.

@@ -1,23 +1,18 @@
 -- The rounds of a plan, the numbers of their runs, and the round that is current.
 use Rattle.std.proofs.Common.{◌≡◌, ◌≤◌, ◌<◌, ◌+◌, ℕ, zero, suc, Bool, true, false, List, [], ◌∷◌, length, Some, refl, sym, ap, ◌∙◌, ⊎_elim, arith}
-use Rattle.std.specs.Prelude.{◌≢◌, ◌==◌, if◌then◌else◌, not, Contains, find, slice_get}
+use Rattle.std.specs.Prelude.{◌≢◌, ◌==◌, if◌then◌else◌, not, find, slice_get}
 use Rattle.std.specs.List.{AllByRecursion, list_all, range_with_len}
 use Rattle.std.proofs.lemmas.Bool.{and_from, and_parts, both_ways, cases_lt, cond_both, cond-false, cond-true, eq-eqb, eqb-true, ne_eqb, not-false, not-true, not_from_false, not_from_true, or_cases, or_from, or_right, false_from_ne_true}
-use Rattle.std.proofs.lemmas.List.Elements.{Contains-append_right}
 use Rattle.std.proofs.lemmas.List.Folds.{list_any_at}
 use Rattle.cv_base.specs.declared.entries.Entry.{Entry}
 use Rattle.cv_base.specs.PlanOf.{PlanOf}
 use Rattle.cv_histories.specs.Legal.{EarlierRoundsDone, IsLegal, round_of}
 use Rattle.cv_histories.specs.Runs.{Run, run_at, runs}
 use Rattle.cv_histories.specs.World.{current_round, is_posted, numbers_from, numbers_of}
+use Rattle.cv_laws.proofs.Each.{all_at}
+use Rattle.cv_laws.proofs.InOrder.{HasEntry, has_first, has_later}
 
 -- ---- lists
-
--- what holds of each element holds of the one at a place
-all_at : {X : Type 0} (P : X → Type 0) (xs : List X) (k : ℕ) (x : X) → AllByRecursion P xs → slice_get xs k ≡ Some x → P x
-all_at P [] k x all at = absurd cc
-all_at P (y ∷ xs) zero x all at = let same : y ≡ x = cc in rw (← same) all.0
-all_at P (y ∷ xs) (suc k) x all at = all_at P xs k x all.1 at
 
 -- each element passes a test that follows from what holds of it
 passes_all : {X : Type 0} (P : X → Type 0) (test : X → Bool) (xs : List X) → ((x : X) → P x → test x ≡ true) → AllByRecursion P xs → list_all test xs ≡ true
@@ -159,18 +154,6 @@ posts_over : (plan : PlanOf) (past : List Entry) (round : ℕ) → ((number : �
 posts_over plan past round posts = passes_all (IsOfRound plan round) (is_posted past) (numbers_of plan round) posts (each_number plan round)
 
 -- ---- entries
-
--- a run has an entry
-abbrev HasEntry : ℕ → List Entry → Type 0
-HasEntry number past = (e : Entry) × Contains past e × (e.run ≡ number)
-
--- it is the newest one
-has_first : (number : ℕ) (o : Entry) (past : List Entry) → o.run ≡ number → HasEntry number (o ∷ past)
-has_first number o past is = (o, (0, omega arith, refl), is)
-
--- or one before it
-has_later : (number : ℕ) (o : Entry) (past : List Entry) → HasEntry number past → HasEntry number (o ∷ past)
-has_later number o past has = (has.0, Contains-append_right (o ∷ []) past has.0 has.1, has.2)
 
 -- what is posted has an entry
 posted_has : (past : List Entry) (number : ℕ) → is_posted past number ≡ true → HasEntry number past

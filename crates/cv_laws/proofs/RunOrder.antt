@@ -1,13 +1,15 @@
--- Runs rise with their rounds, and each number below their count is that of a run.
-use Rattle.std.proofs.Common.{◌≡◌, ◌<◌, ◌≤◌, ◌∙◌, ◌+◌, ℕ, zero, suc, List, [], ◌∷◌, ◌++◌, length, drop, Some, ap, subst, ⊎_elim, arith}
+-- Runs rise with their rounds; what is left of them from a number on; and how many there are.
+use Rattle.std.proofs.Common.{◌≡◌, ◌<◌, ◌≤◌, ◌∙◌, ◌+◌, ℕ, zero, suc, List, [], ◌∷◌, ◌++◌, length, drop, Some, refl, sym, ap, subst, length-append, ⊎_elim, arith}
 use Rattle.std.proofs.lemmas.Bool.{cases_lt}
+use Rattle.std.proofs.lemmas.List.{length-map}
+use Rattle.std.proofs.lemmas.List.Sums.{sum_by-cons}
 use Rattle.std.specs.Prelude.{map, slice_get}
 use Rattle.std.specs.List.{AllByRecursion}
 use Rattle.cv_base.specs.declared.plan.Mode.{Mode}
 use Rattle.cv_base.specs.declared.plan.Round.{Round}
-use Rattle.cv_base.specs.PlanOf.{PlanOf}
+use Rattle.cv_base.specs.PlanOf.{PlanOf, runs_of}
 use Rattle.cv_histories.specs.Runs.{Run, run_at, runs, runs_from}
-use Rattle.cv_laws.proofs.Each.{weaker}
+use Rattle.cv_laws.proofs.Each.{all_at, weaker}
 
 -- ---- rounds
 
@@ -36,14 +38,6 @@ runs_rise n (r ∷ rs) =
     let low = weaker (λ (s : Run). n + 1 ≤ s.round) (λ (s : Run). n ≤ s.round) (λ s above. omega arith) (runs_from (n + 1) rs) later.0 in
     round_rises n r.mode r.inputs (runs_from (n + 1) rs) (low, later.1)
 
--- a bound on all runs holds of each
-all_at : (n : ℕ) (rs : List Run) (j : ℕ) (s : Run) → AllByRecursion (λ (s : Run). n ≤ s.round) rs → slice_get rs j ≡ Some s → n ≤ s.round
-all_at n [] j s all at = absurd cc
-all_at n (r ∷ rs) zero s all at =
-    let same : r ≡ s = cc in
-    subst (λ (x : Run). n ≤ x.round) same all.0
-all_at n (r ∷ rs) (suc j) s all at = all_at n rs j s all.1 at
-
 -- of two runs the one with the lower number is not of a later round
 rounds_rise : (rs : List Run) (i j : ℕ) (r s : Run) → IsRising rs → slice_get rs i ≡ Some r → slice_get rs j ≡ Some s → i ≤ j → r.round ≤ s.round
 rounds_rise [] i j r s rising first second below = absurd cc
@@ -52,7 +46,7 @@ rounds_rise (x ∷ rs) zero zero r s rising first second below =
     subst (λ (x : Run). r.round ≤ x.round) same (omega arith)
 rounds_rise (x ∷ rs) zero (suc j) r s rising first second below =
     let same : x ≡ r = cc in
-    subst (λ (y : Run). y.round ≤ s.round) same (all_at x.round rs j s rising.0 second)
+    subst (λ (y : Run). y.round ≤ s.round) same (all_at (λ (s : Run). x.round ≤ s.round) rs j s rising.0 second)
 rounds_rise (x ∷ rs) (suc i) zero r s rising first second below = absurd (omega arith)
 rounds_rise (x ∷ rs) (suc i) (suc j) r s rising first second below = rounds_rise rs i j r s rising.1 first second (omega arith)
 
@@ -96,3 +90,17 @@ left_at (x ∷ rs) zero r at =
 left_at (x ∷ rs) (suc k) r at =
     let count : suc (k + 1) ≡ suc k + 1 = omega arith in
     left_at rs k r at ∙ ap (λ n. r ∷ drop n (x ∷ rs)) count
+
+-- ---- the number of runs
+
+-- of rounds
+count_from : (n : ℕ) (rounds : List Round) → length (runs_from n rounds) ≡ runs_of rounds
+count_from n [] = refl
+count_from n (r ∷ rs) =
+    let rest = count_from (n + 1) rs in
+    length-append (map (λ (input : List ℕ). record { round = n; mode = r.mode; input = input }) r.inputs) (runs_from (n + 1) rs)
+    ∙ rw (length-map, rest) (sym (sum_by-cons (λ (x : Round). length x.inputs) r rs))
+
+-- of a plan
+pub count : (plan : PlanOf) (rounds : List Round) → rounds ≡ plan.rounds → runs_of rounds ≡ length (runs plan)
+count plan rounds same = sym (count_from 0 rounds) ∙ ap (λ rs. length (runs_from 0 rs)) same

@@ -8,10 +8,12 @@ use Rattle.cv_histories.specs.Runs.{Run, runs}
 use Rattle.cv_histories.specs.Seen.{Seen}
 use Rattle.cv_histories.specs.Serial.{next_entry, serial_from}
 use Rattle.cv_histories.specs.Versions.{ledger}
+use Rattle.cv_laws.specs.InOrder.{AreBelow}
 use Rattle.cv_laws.specs.Statements.{SerialIsLegal}
-use Rattle.cv_laws.proofs.InOrder.{AreBelow, below_is_whole, entries_seen}
+use Rattle.cv_laws.proofs.InOrder.{below_is_whole, entries_seen, one_more}
 use Rattle.cv_laws.proofs.RunOrder.{first_left, none_left}
-use Rattle.cv_laws.proofs.SerialMayFollow.{one_more, serial_may_follow}
+use Rattle.cv_laws.proofs.SerialEntry.{next_is}
+use Rattle.cv_laws.proofs.SerialMayFollow.{next_may_follow}
 
 -- legal and whole
 abbrev Stands : PlanOf → List Entry → Type 0
@@ -25,7 +27,8 @@ stands_from plan [] k past is left are legal =
 stands_from plan (r ∷ rest) k past is left are legal =
     let first = first_left (runs plan) k r rest left in
     let e = next_entry plan (ledger plan past) k r in
-    stands_from plan rest (k + 1) (e ∷ past) is first.later (one_more plan k r past are) (serial_may_follow plan k r past is first.at are, legal)
+    let next = next_is plan past k r is.some_budget first.at in
+    stands_from plan rest (k + 1) (e ∷ past) is first.later (one_more k past e next.run are) (next_may_follow plan k past e is are next, legal)
 
 -- of all runs, after none
 pub serial_is_legal : SerialIsLegal

@@ -1,7 +1,7 @@
 -- The entry that the serial history has next: it says what its run did, and it is the only entry
 -- that does so by worker 0 under the newest version.
-use Rattle.std.proofs.Common.{◌≡◌, ◌≤◌, ◌-◌, ◌∙◌, ℕ, List, [], ◌∷◌, length, replicate, Some, refl, sym, ap, subst}
-use Rattle.std.proofs.lemmas.List.{length-map}
+use Rattle.std.proofs.Common.{◌≡◌, ◌≤◌, ◌-◌, ◌∙◌, ℕ, List, [], ◌∷◌, ◌++◌, length, replicate, Some, refl, sym, ap, subst}
+use Rattle.std.proofs.lemmas.List.{append-nil, length-map}
 use Rattle.std.specs.Prelude.{slice_get, unwrap_or}
 use Rattle.std.specs.List.{AllByRecursion}
 use Rattle.cv_base.specs.declared.entries.Adopted.{Adopted}
@@ -9,22 +9,22 @@ use Rattle.cv_base.specs.declared.entries.Entry.{Entry}
 use Rattle.cv_base.specs.declared.plan.Mode.{Mode}
 use Rattle.cv_base.specs.declared.plan.Mode.TheVariants.{Learn, Live}
 use Rattle.cv_base.specs.PlanOf.{PlanOf}
-use Rattle.cv_histories.specs.Honest.{IsHonest, IsLearn, IsLive, IsOfMode, Tells}
-use Rattle.cv_histories.specs.Legal.{NeverFalls}
+use Rattle.cv_histories.specs.Honest.{AreTables, IsLearn, IsLive, IsOfMode, Tells}
 use Rattle.cv_histories.specs.Rows.{checks_in, fired_of, firings_in, tally_of, written}
 use Rattle.cv_histories.specs.Runs.{Run, run_at}
 use Rattle.cv_histories.specs.Serial.{entry_of_mode, learn_entry, live_entry, next_entry}
-use Rattle.cv_histories.specs.Versions.{Ledger, newest_of}
+use Rattle.cv_histories.specs.Versions.{Ledger, ledger, newest_of}
 use Rattle.cv_runs.specs.PatchedRun.{PatchedStep, Table, entries_in, notes_of, run_under, steps_of}
 use Rattle.cv_runs.specs.PlainRun.{plain_run}
+use Rattle.cv_laws.specs.InOrder.{IsNext}
 use Rattle.cv_laws.proofs.OneRow.{all_tables, all_written, count_tables, one_row, row_tables}
 use Rattle.cv_laws.proofs.OneTable.{RunsUnder, copies_under, runs_under}
-use Rattle.cv_laws.proofs.Versions.{newest_there}
+use Rattle.cv_laws.proofs.Versions.{newest_there, some_version}
 
 -- ---- it says what its run did
 
 -- of a learn run
-learn_ran : (plan : PlanOf) (k : ℕ) (r : Run) → IsLearn plan r.input (learn_entry plan k r (plain_run plan.image r.input plan.budget))
+pub learn_ran : (plan : PlanOf) (k : ℕ) (r : Run) → IsLearn plan r.input (learn_entry plan k r (plain_run plan.image r.input plan.budget))
 learn_ran plan k r = record { adopted = refl; tells = record { end = refl; turns = refl; output = refl; sites = refl }; tally = refl; fired = refl }
 
 -- of a live run under the table of a version
@@ -33,7 +33,7 @@ live_ran plan versions k v r t at runs = record {
   tables = replicate (entries_in runs.steps) t;
   steps = runs.steps;
   joined = runs.some;
-  adopted = row_tables versions v t (entries_in runs.steps) at;
+  adopted = subst (AreTables versions (replicate (entries_in runs.steps) v ++ [])) (append-nil (replicate (entries_in runs.steps) t)) (row_tables versions v t (entries_in runs.steps) [] [] at tt);
   ran = runs.ran;
   tells = record { end = refl; turns = simp length-map; output = refl; sites = refl };
   tally = refl;
@@ -50,6 +50,8 @@ ran_in Live plan l k r some versions =
     (ap (λ o. unwrap_or o []) (sym runs.under))
     (live_ran plan l.versions k (length l.versions - 1) r t (newest_there l.versions versions) runs)
 
+-- ---- it is next
+
 -- it has the mode and the number of the run
 mode_in : (mode : Mode) (plan : PlanOf) (l : Ledger) (k : ℕ) (r : Run) → (entry_of_mode mode plan l k r).mode ≡ mode
 mode_in Learn plan l k r = refl
@@ -59,34 +61,32 @@ run_in : (mode : Mode) (plan : PlanOf) (l : Ledger) (k : ℕ) (r : Run) → (ent
 run_in Learn plan l k r = refl
 run_in Live plan l k r = refl
 
--- the next entry is honest
-pub next_honest : (plan : PlanOf) (l : Ledger) (k : ℕ) (r : Run) → 1 ≤ plan.budget → 1 ≤ length l.versions → run_at plan k ≡ Some r → IsHonest plan l.versions (next_entry plan l k r)
-next_honest plan l k r some versions at =
-    let e = next_entry plan l k r in
-    let mode : e.mode ≡ r.mode = mode_in r.mode plan l k r in
+-- it is by worker 0, and adopted the newest version alone
+worker_in : (mode : Mode) (plan : PlanOf) (l : Ledger) (k : ℕ) (r : Run) → (entry_of_mode mode plan l k r).worker ≡ 0
+worker_in Learn plan l k r = refl
+worker_in Live plan l k r = refl
+
+newest_in : (mode : Mode) (plan : PlanOf) (l : Ledger) (k : ℕ) (r : Run) → AllByRecursion (λ (a : Adopted). a.version ≡ length l.versions - 1) (entry_of_mode mode plan l k r).adopted
+newest_in Learn plan l k r = tt
+newest_in Live plan l k r = (refl, tt)
+
+-- after a history
+pub next_is : (plan : PlanOf) (past : List Entry) (k : ℕ) (r : Run) → 1 ≤ plan.budget → run_at plan k ≡ Some r → IsNext plan past k (next_entry plan (ledger plan past) k r)
+next_is plan past k r some at =
+    let l = ledger plan past in
+    let mode = mode_in r.mode plan l k r in
+    let run = run_in r.mode plan l k r in
     record {
-      run = r;
-      of_plan = ap (run_at plan) (run_in r.mode plan l k r) ∙ at;
-      mode = mode;
-      as_it_ran = subst (λ (m : Mode). IsOfMode m plan l.versions r.input e) (sym mode) (ran_in r.mode plan l k r some versions);
+      run = run;
+      worker = worker_in r.mode plan l k r;
+      newest_alone = newest_in r.mode plan l k r;
+      honest = record {
+        run = r;
+        of_plan = ap (run_at plan) run ∙ at;
+        mode = mode;
+        as_it_ran = subst (λ (m : Mode). IsOfMode m plan l.versions r.input (next_entry plan l k r)) (sym mode) (ran_in r.mode plan l k r some (some_version plan past));
+      };
     }
-
--- ---- what else is known of it
-
--- it is of run k, by worker 0, and adopted the newest version alone
-pub record IsNextOf (l : Ledger) (k : ℕ) (e : Entry) : Type 0 where
-  pub run : e.run ≡ k
-  pub worker : e.worker ≡ 0
-  pub newest : AllByRecursion (λ (a : Adopted). a.version ≡ length l.versions - 1) e.adopted
-  pub never_falls : NeverFalls e.adopted
-
--- by mode
-next_in : (mode : Mode) (plan : PlanOf) (l : Ledger) (k : ℕ) (r : Run) → IsNextOf l k (entry_of_mode mode plan l k r)
-next_in Learn plan l k r = record { run = refl; worker = refl; newest = tt; never_falls = tt }
-next_in Live plan l k r = record { run = refl; worker = refl; newest = (refl, tt); never_falls = tt }
-
-pub next_is : (plan : PlanOf) (l : Ledger) (k : ℕ) (r : Run) → IsNextOf l k (next_entry plan l k r)
-next_is plan l k r = next_in r.mode plan l k r
 
 -- ---- no other entry says so
 
@@ -132,9 +132,10 @@ same_in Learn plan l r e some versions worker mode all ran = same_learn plan r e
 same_in Live plan l r e some versions worker mode all ran =
     same_live plan l.versions r e (length l.versions - 1) (newest_of l.versions) some (newest_there l.versions versions) worker mode all ran
 
--- an honest entry by worker 0 that adopted the newest version alone is the next entry
-pub honest_is_next : (plan : PlanOf) (l : Ledger) (e : Entry) → 1 ≤ plan.budget → 1 ≤ length l.versions → e.worker ≡ 0 → AllByRecursion (λ (a : Adopted). a.version ≡ length l.versions - 1) e.adopted → (honest : IsHonest plan l.versions e)
-    → e ≡ next_entry plan l e.run honest.run
-honest_is_next plan l e some versions worker all honest =
+-- an entry that is next is this one
+pub next_is_serial : (plan : PlanOf) (past : List Entry) (k : ℕ) (e : Entry) → 1 ≤ plan.budget → (next : IsNext plan past k e) → e ≡ next_entry plan (ledger plan past) e.run next.honest.run
+next_is_serial plan past k e some next =
+    let l = ledger plan past in
+    let honest = next.honest in
     let r = honest.run in
-    same_in r.mode plan l r e some versions worker honest.mode all (subst (λ (m : Mode). IsOfMode m plan l.versions r.input e) honest.mode honest.as_it_ran)
+    same_in r.mode plan l r e some (some_version plan past) next.worker honest.mode next.newest_alone (subst (λ (m : Mode). IsOfMode m plan l.versions r.input e) honest.mode honest.as_it_ran)

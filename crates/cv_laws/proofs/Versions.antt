@@ -1,5 +1,5 @@
 -- Versions through a history, and adopted versions in their rows.
-use Rattle.std.proofs.Common.{◌≡◌, ◌≤◌, ◌+◌, ◌-◌, ℕ, zero, suc, Bool, true, false, List, [], ◌∷◌, ◌++◌, length, replicate, Some, refl, sym, ap, ◌∙◌, arith}
+use Rattle.std.proofs.Common.{◌≡◌, ◌≤◌, ◌+◌, ◌-◌, ℕ, Bool, true, false, List, [], ◌∷◌, ◌++◌, length, replicate, Some, refl, sym, ap, ◌∙◌, arith}
 use Rattle.std.specs.Prelude.{◌==◌, if◌then◌else◌, reverse, slice_get}
 use Rattle.std.proofs.lemmas.Bool.{cond_both, eqb-true, eqb-false}
 use Rattle.std.proofs.lemmas.Grind.{reverse_onto}
@@ -17,6 +17,7 @@ use Rattle.cv_histories.specs.Rows.{written}
 use Rattle.cv_histories.specs.Versions.{ledger, newest, newest_of, same_table, seen_by, table}
 use Rattle.cv_histories.specs.World.{joined, joined_on}
 use Rattle.cv_laws.specs.WorldStands.{Falls}
+use Rattle.cv_laws.proofs.PatchedSteps.{in_front}
 use Rattle.cv_runs.specs.PatchedRun.{Table}
 
 -- ---- through a history
@@ -33,16 +34,10 @@ some_version plan (e ∷ past) =
     let l = ledger plan past in
     some_by (same_table (table plan (seen_by l e)) (newest_of l.versions)) l.versions (table plan (seen_by l e)) (some_version plan past)
 
--- what is put behind a list moves none of its elements
-at_front : (versions more : List Table) (v : ℕ) (t : Table) → slice_get versions v ≡ Some t → slice_get (versions ++ more) v ≡ Some t
-at_front [] more v t at = absurd cc
-at_front (x ∷ versions) more zero t at = at
-at_front (x ∷ versions) more (suc v) t at = at_front versions more v t at
-
 -- with a table that may be new, a version keeps its table
 stays_by : (b : Bool) (versions : List Table) (new : Table) (v : ℕ) (t : Table) → slice_get versions v ≡ Some t → slice_get (if b then versions else versions ++ new ∷ []) v ≡ Some t
 stays_by true versions new v t at = at
-stays_by false versions new v t at = at_front versions (new ∷ []) v t at
+stays_by false versions new v t at = in_front versions (new ∷ []) v t at
 
 -- with one more entry too
 pub tables_stay : (plan : PlanOf) (past : List Entry) (e : Entry) (v : ℕ) (t : Table) → slice_get (ledger plan past).versions v ≡ Some t → slice_get (ledger plan (e ∷ past)).versions v ≡ Some t
@@ -84,13 +79,13 @@ floor_stays plan test past e fails = ap (λ (b : Bool). newest plan (elim b [ tr
 -- ---- in rows
 
 -- the newest row, written out last
-written_last : (a : Adopted) (rest : List Adopted) → written (reverse (a ∷ rest)) ≡ written (reverse rest) ++ replicate a.entries a.version
+pub written_last : (a : Adopted) (rest : List Adopted) → written (reverse (a ∷ rest)) ≡ written (reverse rest) ++ replicate a.entries a.version
 written_last a rest =
     ap (λ (rows : List Adopted). written rows) (reverse_onto rest a []) ∙ flat_map-append (λ (x : Adopted). replicate x.entries x.version) (reverse rest) (a ∷ [])
     ∙ ap (λ (vs : List ℕ). written (reverse rest) ++ vs) (append-nil (replicate a.entries a.version))
 
 -- one more copy, put last
-one_more : (n v : ℕ) → replicate (n + 1) v ≡ replicate n v ++ v ∷ []
+pub one_more : (n v : ℕ) → replicate (n + 1) v ≡ replicate n v ++ v ∷ []
 one_more n v = sym (replicate-append-replicate n 1 v)
 
 -- one more version, written out last
@@ -139,7 +134,7 @@ turned_joined a [] done is so_far = so_far
 turned_joined a (b ∷ rest) done is so_far = turned_joined b rest (a ∷ done) is.2 (some_entries b rest is.2, λ same. is.1 (sym same), so_far)
 
 -- also the other way round
-reversed_joined : (rows : List Adopted) → IsJoined rows → IsJoined (reverse rows)
+pub reversed_joined : (rows : List Adopted) → IsJoined rows → IsJoined (reverse rows)
 reversed_joined [] is = tt
 reversed_joined (a ∷ rest) is = turned_joined a rest [] is (some_entries a rest is)
 

@@ -1,3 +1,4 @@
 pub mod Flying
+pub mod InOrder
 pub mod Statements
 pub mod WorldStands

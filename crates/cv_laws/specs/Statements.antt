@@ -6,6 +6,7 @@ use Rattle.cv_base.specs.PlanOf.{PlanOf, IsPlan}
 use Rattle.cv_histories.specs.Legal.{IsLegal, IsWhole}
 use Rattle.cv_histories.specs.Serial.{serial}
 use Rattle.cv_histories.specs.World.{Event, World, after_event, start_world}
+use Rattle.cv_laws.specs.InOrder.{AreByWorkerZero}
 
 -- the world after some events, the first one first
 abbrev pub world_after : PlanOf → World → List Event → World
@@ -21,11 +22,16 @@ EveryWorldIsLegal =
 abbrev pub SerialIsLegal : Type 0
 SerialIsLegal = (plan : PlanOf) → IsPlan plan → IsLegal plan (serial plan) × IsWhole plan (serial plan)
 
--- with one worker there is no other
-abbrev pub OneWorkerIsSerial : Type 0
-OneWorkerIsSerial =
+-- by worker 0 alone there is no other
+abbrev pub WorkerZeroIsSerial : Type 0
+WorkerZeroIsSerial =
     (plan : PlanOf) (past : List Entry) → IsPlan plan
-    → plan.workers ≡ 1
+    → AreByWorkerZero past
     → IsLegal plan past
     → IsWhole plan past
     → past ≡ serial plan
+
+-- so with one worker there is no other
+abbrev pub OneWorkerIsSerial : Type 0
+OneWorkerIsSerial =
+    (plan : PlanOf) (past : List Entry) → IsPlan plan → plan.workers ≡ 1 → IsLegal plan past → IsWhole plan past → past ≡ serial plan
