@@ -11,7 +11,7 @@ use Rattle.clearview.specs.declared.cause.Cause.{Cause}
 use Rattle.clearview.specs.CheckText.{check_text}
 use Rattle.clearview.specs.Gives.{Gives, GivesText}
 use Rattle.clearview.specs.Verdict.{image_in, plan_in, verdict_by}
-use Rattle.clearview.specs.Words.{Command, Plain, Check, Infer, Run, run_job}
+use Rattle.clearview.specs.Words.{Plain, Check, Infer}
 
 -- ---- fetches
 
@@ -80,13 +80,3 @@ pub infer_against : (told : Option Held) (job : List ℕ) (c : Cause)
 infer_against None job c gives = tt
 infer_against (Some held) job c (inl e) = inl (rw e refl)
 infer_against (Some held) job c (inr free) = inr free
-
--- ---- run
-
--- words that ask to run a job are that command
-pub is_run : (o : Option Command) (job : List ℕ) → Some job ≡ run_job o → o ≡ Some (Run job)
-is_run (Some (Run job)) name is = let same : job ≡ name = cc in ap (λ (j : List ℕ). Some (Run j)) same
-is_run (Some (Plain image budget input)) name is = absurd cc
-is_run (Some (Check job)) name is = absurd cc
-is_run (Some (Infer job)) name is = absurd cc
-is_run None name is = absurd cc

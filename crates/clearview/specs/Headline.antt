@@ -1,4 +1,4 @@
--- What a job that was run has come to (README, "The headline").
+-- What the runs of a job or of a drill have come to (README, "The headline").
 use Rattle.std.specs.Prelude.{◌≡◌, Result, Ok, Err}
 use Rattle.std.specs.declared.alloc.Global.{Global}
 use Rattle.std.specs.declared.string.String.{String}
@@ -22,3 +22,8 @@ pub record IsPosted (b : ManagerOf) : Type 0 where
 abbrev pub plan_made : Result (ManagerOf × String Global) Cause → Result PlanOf Cause
 plan_made (Ok made) = Ok made.0.plan
 plan_made (Err c) = Err c
+
+-- its text, or the cause against it
+abbrev pub text_made : Result (ManagerOf × String Global) Cause → Result (String Global) Cause
+text_made (Ok made) = Ok made.1
+text_made (Err c) = Err c

@@ -10,13 +10,15 @@ use Rattle.cv_job.specs.JobOf.{JobOf, plan_of}
 use Rattle.cv_job.specs.Reading.{reading_of}
 use Rattle.cv_runs.specs.PlainText.{plain_text}
 use Rattle.cv_base.specs.PlanOf.{PlanOf}
-use Rattle.cv_histories.specs.OtherTexts.{infer_text}
+use Rattle.cv_base.specs.declared.entries.Entry.{Entry}
+use Rattle.cv_histories.specs.DrillPlan.{drill_plan}
+use Rattle.cv_histories.specs.OtherTexts.{drill_text, infer_text}
 use Rattle.cv_histories.specs.Report.{report}
 use Rattle.cv_histories.specs.Serial.{serial}
 use Rattle.clearview.specs.CheckText.{check_text}
 use Rattle.clearview.specs.declared.cause.Cause.{Cause}
 use Rattle.clearview.specs.declared.cause.Cause.TheVariants as cause
-use Rattle.clearview.specs.Words.{Command, Plain, Check, Infer, Run, command_of}
+use Rattle.clearview.specs.Words.{Command, Plain, Check, Infer, Run, Drill, command_of}
 
 abbrev pub Verdict : Type 0
 Verdict = Result (List ℕ) Cause
@@ -55,6 +57,28 @@ plan_in file job =
     and_then (job_in (file job)) (λ (order : JobOf).
     and_then (image_in (file order.image)) (λ (picture : Picture). Ok (plan_of order picture)))
 
+-- the plan of a drill, which opens only where it is asked to: its learn runs would be computed
+-- wherever it stands
+unfoldable pub drilled : ℕ → ℕ → PlanOf
+drilled number runs = drill_plan number runs
+
+-- the plan of a command whose runs are posted to a book
+abbrev pub plan_asked : Option Command → (List ℕ → Option (List ℕ)) → Result PlanOf Cause
+plan_asked (Some (Run job)) file = plan_in file job
+plan_asked (Some (Drill number runs)) file = Ok (drilled number runs)
+plan_asked _ file = Err cause.Usage
+
+-- the plan of a drill, which no file tells
+abbrev pub plan_drilled : Option Command → Option PlanOf
+plan_drilled (Some (Drill number runs)) = Some (drilled number runs)
+plan_drilled _ = None
+
+-- what such a command writes of its plan and of the history of all runs
+abbrev pub book_text : Option Command → PlanOf → List Entry → List ℕ
+book_text (Some (Run job)) plan past = report plan past
+book_text (Some (Drill number runs)) plan past = drill_text plan past
+book_text _ plan past = []
+
 abbrev pub verdict_by : Option Command → (List ℕ → Option (List ℕ)) → Verdict
 verdict_by None file = Err cause.Usage
 verdict_by (Some (Plain image budget input)) file =
@@ -62,6 +86,7 @@ verdict_by (Some (Plain image budget input)) file =
 verdict_by (Some (Check job)) file = and_then (plan_in file job) (λ (plan : PlanOf). Ok (check_text plan))
 verdict_by (Some (Infer job)) file = and_then (plan_in file job) (λ (plan : PlanOf). Ok (infer_text plan))
 verdict_by (Some (Run job)) file = and_then (plan_in file job) (λ (plan : PlanOf). Ok (report plan (serial plan)))
+verdict_by (Some (Drill number runs)) file = Ok (drill_text (drilled number runs) (serial (drilled number runs)))
 
 abbrev pub verdict_of : List (List ℕ) → (List ℕ → Option (List ℕ)) → Verdict
 verdict_of words file = verdict_by (command_of words) file

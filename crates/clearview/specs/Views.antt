@@ -1,9 +1,15 @@
 -- The command that a reading of words answers.
 use Rattle.clearview.specs.declared.words.Command.{Command as Reading}
 use Rattle.clearview.specs.declared.words.Command.TheVariants as reading
-use Rattle.clearview.specs.Words.{Command, Plain, Check, Infer}
+use Rattle.clearview.specs.declared.words.Order.{Order}
+use Rattle.clearview.specs.declared.words.Order.TheVariants as order
+use Rattle.clearview.specs.Words.{Command, Plain, Check, Infer, Run, Drill}
 
 abbrev pub command_view : Reading → Command
 command_view (reading.Plain image budget input) = Plain image.now budget input
 command_view (reading.Check job) = Check job.now
 command_view (reading.Infer job) = Infer job.now
+
+abbrev pub order_view : Order → Command
+order_view (order.Run job) = Run job.now
+order_view (order.Drill number runs) = Drill number runs

@@ -1,5 +1,5 @@
 -- Which lists of words are commands (docs/FORMATS.md, "Words").
-use Rattle.std.specs.Prelude.{ℕ, Bool, false, not, ◌&&◌, ◌==◌, ◌+◌, ◌-◌, ◌*◌, ◌≤◌, if◌then◌else◌, List, [], ◌∷◌, length, codes, Option, Some, None, option_and_then, option_map}
+use Rattle.std.specs.Prelude.{ℕ, Bool, true, false, not, ◌&&◌, ◌==◌, ◌+◌, ◌-◌, ◌*◌, ◌^◌, ◌≤◌, nat_lt, if◌then◌else◌, List, [], ◌∷◌, length, codes, Option, Some, None, option_and_then, option_map}
 use Rattle.std.specs.List.{list_all}
 use Rattle.std.specs.Result.{result_ok}
 use Rattle.std.specs.Str.{bytes_eq}
@@ -11,6 +11,7 @@ pub data Command : Type 0 where
   Check : List ℕ → Command  -- job's name
   Infer : List ℕ → Command  -- job's name
   Run : List ℕ → Command  -- job's name
+  Drill : ℕ → ℕ → Command  -- number, runs
 
 -- a file's name: not empty, and does not begin with `-`
 abbrev pub is_name : List ℕ → Bool
@@ -52,8 +53,24 @@ job_command name job =
     else if bytes_eq name (codes "run") then Some (Run job)
     else None
 
+-- the number of a drill: 1 to 20 digits, below 2^64
+abbrev pub drill_number : List ℕ → Option ℕ
+drill_number word =
+    if within 1 20 (length word) && list_all is_digit word && nat_lt (number_from 0 word) (2 ^ 64)
+    then Some (number_from 0 word) else None
+
+-- its live runs: 1 to 4 digits, 1 to 1,022
+abbrev pub drill_runs : List ℕ → Option ℕ
+drill_runs word =
+    if within 1 4 (length word) && list_all is_digit word && within 1 1022 (number_from 0 word)
+    then Some (number_from 0 word) else None
+
+abbrev pub drill_of : List ℕ → List ℕ → Option Command
+drill_of number runs = option_and_then (λ n. option_map (λ count. Drill n count) (drill_runs runs)) (drill_number number)
+
 abbrev pub command_of : List (List ℕ) → Option Command
 command_of (name ∷ job ∷ []) = job_command name job
+command_of (name ∷ number ∷ runs ∷ []) = if bytes_eq name (codes "drill") then drill_of number runs else None
 command_of (name ∷ image ∷ budget ∷ input ∷ []) = if bytes_eq name (codes "plain") then plain_of image budget input else None
 command_of _ = None
 
@@ -64,15 +81,18 @@ files_named (Some (Plain image budget input)) = 1
 files_named (Some (Check job)) = 2
 files_named (Some (Infer job)) = 2
 files_named (Some (Run job)) = 2
+files_named (Some (Drill number runs)) = 0
 
--- an input has at most 65,536 bytes
+-- an input has at most 65,536 bytes, and a drill 1 to 1,022 live runs
 abbrev pub IsShort : Command → Type 0
 IsShort (Plain image budget input) = length input ≤ 65536
 IsShort (Check job) = Unit {0}
 IsShort (Infer job) = Unit {0}
 IsShort (Run job) = Unit {0}
+IsShort (Drill number runs) = (1 ≤ runs) × (runs ≤ 1022)
 
--- the job's name of a command that runs a job
-abbrev pub run_job : Option Command → Option (List ℕ)
-run_job (Some (Run job)) = Some job
-run_job _ = None
+-- whether the runs of a command are posted to a book
+abbrev pub keeps_book : Option Command → Bool
+keeps_book (Some (Run job)) = true
+keeps_book (Some (Drill number runs)) = true
+keeps_book _ = false

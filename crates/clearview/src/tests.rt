@@ -237,7 +237,7 @@ static RUNS: [(&str, &str, &[u32], &str); 31] = [
 ];
 
 /// Words that are no command, and a command with a word changed.
-static NO_COMMANDS: [&[&str]; 28] = [
+static NO_COMMANDS: [&[&str]; 39] = [
     &[],
     &[""],
     &["run"],
@@ -266,6 +266,46 @@ static NO_COMMANDS: [&[&str]; 28] = [
     &["infer", ""],
     &["infer", "-sample"],
     &["infer", "sample", "none"],
+    &["drill"],
+    &["drill", "0"],
+    &["drill", "0", "0"],
+    &["drill", "0", "1023"],
+    &["drill", "0", "00001"],
+    &["drill", "0", "1", "1"],
+    &["drill", "", "1"],
+    &["drill", "-1", "1"],
+    &["drill", "0x1", "1"],
+    &["drill", "18446744073709551616", "1"],
+    &["drill", "000000000000000000000", "1"],
+];
+
+/// Number, runs, and what `drill` writes.
+static DRILLS: [(&str, &str, &str); 5] = [
+    (
+        "0",
+        "1",
+        "runs 3 exits 3 failures 0 budgets 0 cases 0 versions 1 withdrawals 0\n",
+    ),
+    (
+        "00000000000000000000",
+        "0001",
+        "runs 3 exits 3 failures 0 budgets 0 cases 0 versions 1 withdrawals 0\n",
+    ),
+    (
+        "2",
+        "1",
+        "runs 3 exits 2 failures 1 budgets 0 cases 1 versions 2 withdrawals 0\n",
+    ),
+    (
+        "2",
+        "3",
+        "runs 5 exits 2 failures 3 budgets 0 cases 1 versions 3 withdrawals 0\n",
+    ),
+    (
+        "2",
+        "1022",
+        "runs 1024 exits 1021 failures 3 budgets 0 cases 1 versions 3 withdrawals 0\n",
+    ),
 ];
 
 fn words_of(alloc: Global, words: &[&str]) -> Result<Vec<String>, NoMemory> {
@@ -446,6 +486,20 @@ fn run_repairs_a_call_of_no_point(rt: HostRuntime) -> Result<(), Fail> {
     assert_eq!(rt; (finish.cause, finish.status), (Cause::SinkFault, 7));
     assert!(rt; finish.book.is_some());
     assert_eq!(rt; sink.bytes(), b"clearview ".as_slice());
+    Ok(())
+}
+
+#[test]
+fn drill_counts_what_its_runs_came_to(rt: HostRuntime) -> Result<(), Fail> {
+    let mut store = MemStore::make(rt.alloc());
+    for (number, runs, text) in &DRILLS {
+        let words = words_of(rt.alloc(), &["drill", number, runs])?;
+        let mut sink = MemSink::make(rt.alloc(), 1000, 1000)?;
+        let finish = clearview(rt.alloc(), words.as_slice(), &mut store, &mut sink);
+        assert_eq!(rt; (finish.cause, finish.status), (Cause::Done, 0), "{text}");
+        assert!(rt; finish.book.is_some());
+        assert_eq!(rt; sink.bytes(), text.as_bytes());
+    }
     Ok(())
 }
 

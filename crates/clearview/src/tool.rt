@@ -1,10 +1,10 @@
-ghost use Rattle.std.specs.Prelude.{◌≡◌, ◌≢◌, ◌⊎◌, ◌↔◌, ◌≤◌, Ok, Some, None, length, map, string_bytes, IfErr, IfSome, IsErrOf};
+ghost use Rattle.std.specs.Prelude.{◌≡◌, ◌≢◌, ◌⊎◌, ◌↔◌, ◌≤◌, Ok, Some, None, false, length, map, string_bytes, IfErr, IfSome, IsErrOf};
 ghost use Rattle.cv_edge.specs.Edge.{FetchesOnce, FetchesUpTo, HasCause, Rose};
 ghost use Rattle.clearview.specs.Causes.{status_of, Completes, Ends, Writes, Silent};
 ghost use Rattle.clearview.specs.Gives.{GivesText, IsEarly};
 ghost use Rattle.clearview.specs.Verdict.{verdict_of, verdict_by};
 ghost use Rattle.clearview.specs.Views.{command_view};
-ghost use Rattle.clearview.specs.Words.{command_of, files_named, run_job, IsShort, Plain, Check, Infer};
+ghost use Rattle.clearview.specs.Words.{command_of, files_named, keeps_book, IsShort, Plain, Check, Infer};
 
 use crate::cause::{Cause, Finish};
 use crate::files::{image_of, plan_of};
@@ -15,15 +15,15 @@ use crate::words::{Command, read};
 use cv_edge::{Failed, Sink, Store, write_all};
 use std::alloc::Global;
 
-/// Does the command that words are, which do not ask to run a job: fetches the files that it names,
-/// and writes its text whole (docs/FORMATS.md, "Causes and statuses").
+/// Does the command that words are, whose runs are not posted to a book: fetches the files that it
+/// names, and writes its text whole (docs/FORMATS.md, "Causes and statuses").
 pub fn tool<S: Store, K: Sink>(
     alloc: Global,
     words: &[String],
     store: &mut S,
     sink: &mut K,
 ) -> Finish
-    requires { run_job (command_of (map string_bytes words.now)) ≡ None }
+    requires { keeps_book (command_of (map string_bytes words.now)) ≡ false }
     ensures none { result.book ≡ None }
     ensures status { result.status ≡ status_of result.cause }
     ensures usage { (result.cause ≡ Cause.Usage) ↔ (command_of (map string_bytes words.now) ≡ None) }
@@ -61,7 +61,7 @@ pub(crate) fn written<K: Sink>(sink: &mut K, text: &str) -> Cause
 /// The text of the command that words are, or the cause against it.
 #[tactic(auto, using(crate::proofs::Commands::fetches_none))]
 fn text_of<S: Store>(alloc: Global, words: &[String], store: &mut S) -> Result<String, Cause>
-    requires { run_job (command_of (map string_bytes words.now)) ≡ None }
+    requires { keeps_book (command_of (map string_bytes words.now)) ≡ false }
     ensures gives { IfSome (S.told store.old) (λ held. GivesText (verdict_of (map string_bytes words.now) held.file) result) }
     ensures usage { IsErrOf result Cause.Usage ↔ (command_of (map string_bytes words.now) ≡ None) }
     ensures done { IfErr result (λ c. (c ≢ Cause.Done) × (c ≢ Cause.SinkFault)) }

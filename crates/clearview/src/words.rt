@@ -1,21 +1,24 @@
-ghost use Rattle.std.specs.Prelude.{◌≡◌, ◌↔◌, ◌≤◌, ℕ, List, Ok, Some, None, is_some, length, map, string_bytes, IfOk, IfSome, IsErr, IsSome, IsTrue, if◌then◌else◌};
+ghost use Rattle.std.specs.Prelude.{◌≡◌, ◌≤◌, ◌^◌, ◌&&◌, ℕ, List, Ok, Some, None, false, is_some, length, map, nat_lt, string_bytes, IfOk, IfSome, IsErr, IsSome, if◌then◌else◌};
 ghost use Rattle.std.specs.Char.{is_ascii_hexdigit};
 ghost use Rattle.std.specs.List.{list_all};
-ghost use Rattle.std.specs.Option.{option_copied, option_map};
-ghost use Rattle.clearview.specs.Words.{command_of, IsShort, job_command, plain_of, is_digit, is_name, number_from, budget_of, input_of, run_job};
-ghost use Rattle.clearview.specs.Views.{command_view};
+ghost use Rattle.std.specs.Option.{option_map};
+ghost use Rattle.clearview.specs.Words.{command_of, IsShort, job_command, plain_of, is_digit, is_name, number_from, budget_of, input_of, drill_number, drill_of, drill_runs, keeps_book};
+ghost use Rattle.clearview.specs.Views.{command_view, order_view};
 
 use cv_base::{Items, NoMemory};
 use hex::FromHexError;
 use std::alloc::Global;
 
 /// The highest budget, in turns.
-const MAX_BUDGET: u32 = 10_000_000;
+const MAX_BUDGET: u64 = 10_000_000;
+
+/// The most live runs of a drill.
+const MAX_RUNS: u64 = 1_022;
 
 /// The most hexadecimal digits of an input: two for each of 65,536 bytes.
 const MAX_INPUT_DIGITS: usize = 131_072;
 
-/// What a list of words asks for (docs/FORMATS.md, "Words").
+/// What a list of words asks for, where no runs are posted to a book (docs/FORMATS.md, "Words").
 #[derive(Debug, Drop)]
 pub enum Command<'a> {
     /// To run an image for at most `budget` turns, 1 to 10,000,000, with an input of at most
@@ -35,21 +38,48 @@ pub enum Command<'a> {
     },
 }
 
-/// The job that words ask to run; None where they ask for something else (docs/FORMATS.md,
-/// "Words").
-pub fn run_job(words: &[String]) -> Option<&str>
-    ensures { option_copied result ≡ run_job (command_of (map string_bytes words.now)) }
+/// What a list of words asks for, where the runs are posted to a book (docs/FORMATS.md, "Words").
+#[derive(Clone, Copy, Debug)]
+pub enum Order<'a> {
+    /// To run a job.
+    Run { job: &'a str },
+    /// To run the plan that is made of a number, with 1 to 1,022 live runs.
+    Drill { number: u64, runs: u32 },
+}
+
+/// What words ask for, where the runs are posted to a book; None where they ask for something else
+/// (docs/FORMATS.md, "Words").
+pub fn order_in(words: &[String]) -> Option<Order<'_>>
+    ensures some { IfSome result (λ o. command_of (map string_bytes words.now) ≡ Some (order_view o)) }
+    ensures none { result ≡ None → keeps_book (command_of (map string_bytes words.now)) ≡ false }
+    ensures short { IfSome result (λ o. IsShort (order_view o)) }
 {
     match words {
-        [name, job] if name.as_str() == "run" && is_name(job.as_str()) => Some(job.as_str()),
+        [name, job] if name.as_str() == "run" && is_name(job.as_str()) => {
+            let job = job.as_str();
+            Some(Order::Run { job })
+        }
+        [name, number, runs] if name.as_str() == "drill" => {
+            drill_in(number.as_str(), runs.as_str())
+        }
         _ => None,
     }
 }
 
-/// The command that words are, which do not ask to run a job; None where they are none
+/// The drill that words ask for.
+fn drill_in<'a>(number: &str, runs: &str) -> Option<Order<'a>>
+    ensures value { option_map order_view result ≡ drill_of number.now runs.now }
+    ensures short { IfSome result (λ o. IsShort (order_view o)) }
+{
+    let number = drill_number_in(number)?;
+    let runs = drill_runs_in(runs)?;
+    Some(Order::Drill { number, runs })
+}
+
+/// The command that words are, whose runs are not posted to a book; None where they are none
 /// (docs/FORMATS.md, "Words"). Memory is taken only for the input of a command.
 pub fn read<'a>(alloc: Global, words: &'a [String]) -> Result<Option<Command<'a>>, NoMemory>
-    requires { run_job (command_of (map string_bytes words.now)) ≡ None }
+    requires { keeps_book (command_of (map string_bytes words.now)) ≡ false }
     ensures value { IfOk result (λ o. option_map command_view o ≡ command_of (map string_bytes words.now)) }
     ensures short { IfOk result (λ o. IfSome o (λ c. IsShort (command_view c))) }
     ensures memory { IsErr result → IsSome (command_of (map string_bytes words.now)) }
@@ -67,7 +97,7 @@ pub fn read<'a>(alloc: Global, words: &'a [String]) -> Result<Option<Command<'a>
 }
 
 fn job_command<'a>(name: &str, job: &'a str) -> Option<Command<'a>>
-    requires { run_job (job_command name.now job.now) ≡ None }
+    requires { keeps_book (job_command name.now job.now) ≡ false }
     ensures value { option_map command_view result ≡ job_command name.now job.now }
     ensures short { IfSome result (λ c. IsShort (command_view c)) }
 {
@@ -128,20 +158,47 @@ fn budget_in(word: &str) -> Option<u32>
     if value == 0 || value > MAX_BUDGET {
         return None;
     }
-    Some(value)
+    Some(value as u32)
 }
 
-/// The number that at most 8 decimal digits write; None where one is no digit.
-fn number_in(digits: &[u8]) -> Option<u32>
-    requires { length digits.now ≤ 8 }
-    ensures { result ≡ (if list_all is_digit digits.now then Some (number_from 0 digits.now) else None) }
+/// The number of a drill.
+fn drill_number_in(word: &str) -> Option<u64>
+    ensures { result ≡ drill_number word.now }
 {
-    let mut value = 0u32;
+    let digits = word.as_bytes();
+    if digits.is_empty() || digits.len() > 20 {
+        return None;
+    }
+    number_in(digits)
+}
+
+/// The number of a drill's live runs.
+fn drill_runs_in(word: &str) -> Option<u32>
+    ensures { result ≡ drill_runs word.now }
+{
+    let digits = word.as_bytes();
+    if digits.is_empty() || digits.len() > 4 {
+        return None;
+    }
+    let value = number_in(digits)?;
+    if value == 0 || value > MAX_RUNS {
+        return None;
+    }
+    Some(value as u32)
+}
+
+/// The number that decimal digits write; None where one is no digit, or the number is 2^64 or more.
+fn number_in(digits: &[u8]) -> Option<u64>
+    ensures { result ≡ (if list_all is_digit digits.now && nat_lt (number_from 0 digits.now) (2 ^ 64) then Some (number_from 0 digits.now) else None) }
+{
+    let mut value = 0u64;
     for digit in digits {
         if !digit.is_ascii_digit() {
             return None;
         }
-        value = 10 * value + u32::from(*digit - b'0');
+        value = value
+            .checked_mul(10)?
+            .checked_add(u64::from(*digit - b'0'))?;
     }
     Some(value)
 }

@@ -1,3 +1,4 @@
+pub mod Counts
 pub mod HexText
 pub mod Lines
 pub mod Parts

@@ -1,5 +1,6 @@
--- Parts of a report, in the order in which they are written (docs/FORMATS.md, "Report").
-use Rattle.std.specs.Prelude.{ℕ, ℤ, ◌≡◌, ◌+◌, List, [], ◌∷◌, ◌++◌, map, codes, Option, Some}
+-- Parts of a report, in the order in which they are written, and of the line of `drill`
+-- (docs/FORMATS.md, "Report", "Texts of the commands").
+use Rattle.std.specs.Prelude.{ℕ, ℤ, ◌≡◌, ◌+◌, List, [], ◌∷◌, ◌++◌, length, map, codes, Option, Some}
 use Rattle.std.specs.Fmt.{decimal, signed_decimal}
 use Rattle.cv_base.specs.declared.cases.Case.{Case}
 use Rattle.cv_base.specs.declared.cases.Change.{Change}
@@ -10,10 +11,11 @@ use Rattle.cv_base.specs.declared.invariants.Invariant.{Invariant}
 use Rattle.cv_base.specs.EndText.{end_text, kind_text}
 use Rattle.cv_base.specs.InvariantText.{invariant_text, list_text}
 use Rattle.cv_base.specs.Text.{address_text}
+use Rattle.cv_histories.specs.OtherTexts.{ends_with, is_budget, is_failed}
 use Rattle.cv_histories.specs.Report.{candidate_lines, case_line, change_text, entry_line, line, maker_text, repair_lines, withdrawn_text}
 use Rattle.cv_histories.specs.Repairs.{repairs_of}
 use Rattle.cv_histories.specs.Scores.{fails, score, wins}
-use Rattle.cv_histories.specs.Seen.{Seen}
+use Rattle.cv_histories.specs.Seen.{Seen, is_exit}
 use Rattle.cv_histories.specs.Texts.{action_text, adopted_text, class_text, fired_text, mode_text, tally_text}
 use Rattle.cv_manager.specs.ManagerOf.{ManagerOf, case_in, seen_in}
 use Rattle.cv_runs.specs.PlainText.{bytes_text}
@@ -87,3 +89,11 @@ version_line v maker patches =
 abbrev pub lines_of_change : Change → List ℕ
 lines_of_change change =
     withdrawn_text change.entry change.case change.withdrawn ++ change_text (codes "install") change.entry change.case change.installed
+
+-- ---- the line of `drill`
+
+-- how many entries there are, and how many ended in each way
+abbrev pub ends_text : List Entry → List ℕ
+ends_text entries =
+    codes "runs " ++ decimal (length entries) ++ codes " exits " ++ decimal (ends_with is_exit entries)
+    ++ codes " failures " ++ decimal (ends_with is_failed entries) ++ codes " budgets " ++ decimal (ends_with is_budget entries)

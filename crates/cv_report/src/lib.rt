@@ -1,11 +1,14 @@
-//! The report of a plan's history (docs/FORMATS.md, "Report").
+//! The report of a plan's history, and the line that `drill` writes of it (docs/FORMATS.md, "Report"
+//! and "Texts of the commands").
 #![tactic(auto)]
 
 mod cases;
+mod drill;
 mod entries;
 mod lists;
 mod texts;
 mod whole;
 
+pub use drill::drill_text;
 pub use texts::bytes_text;
 pub use whole::report;

@@ -5,7 +5,7 @@ use Rattle.clearview.proofs.words.number_in.Given as goal
 
 abbrev pub invariant-loop-digit : goal.invariant-loop-digit
 invariant-loop-digit l = record {
-  small : l.value < 10 ^ l.digit-index;
+  small : l.value < 2 ^ 64;
   number : number_from l.value (drop l.digit-index l.digits) ≡ number_from 0 l.digits;
   rest : list_all is_digit (drop l.digit-index l.digits) ≡ list_all is_digit l.digits;
 }
