@@ -1,31 +1,14 @@
 -- What is learned of the runs of a plan, one after another.
-use Rattle.std.proofs.Common.{◌≡◌, ◌≤◌, ℕ, zero, suc, ◌+◌, List, [], ◌∷◌, ◌++◌, length, take, map, refl, sym, ap, ◌∙◌, arith, add-one, length-append, append_assoc, subst}
+use Rattle.std.proofs.Common.{◌≡◌, ◌≤◌, ℕ, zero, suc, ◌+◌, List, [], ◌∷◌, ◌++◌, length, take, refl, sym, ap, ◌∙◌, arith, add-one, append_assoc, subst}
 use Rattle.std.specs.Prelude.{slice_get}
 use Rattle.std.specs.List.{flat_map}
-use Rattle.std.proofs.lemmas.List.Sums.{sum_by-cons}
-use Rattle.std.proofs.lemmas.List.{append-nil, take_all, length-map}
+use Rattle.std.proofs.lemmas.List.{append-nil, take_all}
 use Rattle.cv_base.specs.declared.entries.Observation.{Observation}
-use Rattle.cv_base.specs.declared.plan.Mode.{Mode}
-use Rattle.cv_base.specs.declared.plan.Round.{Round}
-use Rattle.cv_base.specs.PlanOf.{PlanOf, runs_of}
+use Rattle.cv_base.specs.PlanOf.{PlanOf}
 use Rattle.cv_histories.specs.OtherTexts.{seen_in_learn_run}
-use Rattle.cv_histories.specs.Runs.{Run, runs, runs_from}
+use Rattle.cv_histories.specs.Runs.{Run, runs}
 use Rattle.cv_observe.specs.StandsFor.{StandsFor, SummaryOf}
 use Rattle.clearview.specs.Inferring.{seen_of, seen_in_run_at}
-
--- ---- the runs of a plan by their numbers
-
-abbrev run_with : ℕ → Mode → List ℕ → Run
-run_with n mode input = record { round = n; mode = mode; input = input }
-
-count_from : (n : ℕ) (rounds : List Round) → length (runs_from n rounds) ≡ runs_of rounds
-count_from n [] = refl
-count_from n (r ∷ rs) =
-    let rest = count_from (n + 1) rs in
-    length-append (map (λ (input : List ℕ). run_with n r.mode input) r.inputs) (runs_from (n + 1) rs) ∙ rw (length-map, rest) (sym (sum_by-cons (λ (x : Round). length x.inputs) r rs))
-
-pub count : (plan : PlanOf) (rounds : List Round) → rounds ≡ plan.rounds → runs_of rounds ≡ length (runs plan)
-count plan rounds same = sym (count_from 0 rounds) ∙ ap (λ rs. length (runs_from 0 rs)) same
 
 -- ---- what is seen in them
 

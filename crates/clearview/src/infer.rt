@@ -99,7 +99,7 @@ fn end_of_run(alloc: Global, plan: &Plan, run: u32, arena: &mut Arena) -> Result
 }
 
 /// The number of runs of a plan, which has a worker for them.
-#[tactic(auto, using(crate::proofs::Inferring::count))]
+#[tactic(auto, using(cv_laws::proofs::RunOrder::count))]
 fn runs_of(plan: &Plan) -> u32
     ensures count { result ≡ length (runs plan.now) }
     ensures worker { 0 < plan.now.workers }
