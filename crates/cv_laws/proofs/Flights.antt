@@ -298,7 +298,7 @@ module _ (plan : PlanOf) (i : ℕ) (f : Flight) (within : length f.steps ≤ pla
   -- ---- of a learn run
 
   -- its steps are the plain run
-  plain_whole : (over : Bool) → (over || (length f.steps == plan.budget)) ≡ true → ((turns : ℕ) → steps_from plan.image (length f.steps + turns) (start_of plan f) ≡ steps_of (done_in f) ++ rest_of plan f over turns) → plain_run plan.image f.run.input plan.budget ≡ steps_of (done_in f)
+  pub plain_whole : (over : Bool) → (over || (length f.steps == plan.budget)) ≡ true → ((turns : ℕ) → steps_from plan.image (length f.steps + turns) (start_of plan f) ≡ steps_of (done_in f) ++ rest_of plan f over turns) → plain_run plan.image f.run.input plan.budget ≡ steps_of (done_in f)
   plain_whole true ended goes = ap (λ (k : ℕ). steps_from plan.image k (start_of plan f)) (sym count) ∙ goes (plan.budget - length f.steps) ∙ append-nil (steps_of (done_in f))
   plain_whole false ended goes =
       ap (λ (k : ℕ). steps_from plan.image k (start_of plan f)) (sym (length_all (length f.steps) plan.budget ended))

@@ -148,10 +148,14 @@ module _ (plan : PlanOf) (w : World) (i : ℕ) (f : Flight) (stands : WorldStand
       ahead_later round number now (omega arith))
       (cases_eq f.run.round round)
 
+  -- the entry may follow what was posted
+  pub post_follows : MayFollow plan w.history new
+  post_follows = may_follow plan w.history i f mine (omega (arith, slice_get_within w.flights i (Some f) has, stands.few)) ended
+
   -- a world stands through a posting
   pub post_stands : WorldStands plan after
   post_stands = record {
-    legal = (may_follow plan w.history i f mine (omega (arith, slice_get_within w.flights i (Some f) has, stands.few)) ended, stands.legal);
+    legal = (post_follows, stands.legal);
     few = rw set_length stands.few;
     flying = λ j g at. flying_after j g (was j g at);
     apart = λ j k g h at at' e. stands.apart j k g h (was j g at).1 (was k h at').1 e;

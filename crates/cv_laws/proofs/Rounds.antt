@@ -191,6 +191,10 @@ IsCurrent plan past round = IsFirst (λ x. not (is_over plan past x)) 0 (length 
 is_current : (plan : PlanOf) (past : List Entry) (round : ℕ) → current_round plan past ≡ Some round → IsCurrent plan past round
 is_current plan past round current = first_found (λ x. not (is_over plan past x)) 0 (length plan.rounds) round current
 
+-- it is a round of the plan
+pub current_within : (plan : PlanOf) (past : List Entry) (round : ℕ) → current_round plan past ≡ Some round → round < length plan.rounds
+current_within plan past round current = let within = (is_current plan past round current).within in omega arith
+
 -- it is not over
 not_over : (plan : PlanOf) (past : List Entry) (round : ℕ) → current_round plan past ≡ Some round → is_over plan past round ≡ false
 not_over plan past round current = not-true (is_over plan past round) (is_current plan past round current).passes

@@ -9,7 +9,7 @@ abbrev Slots : Type 0
 Slots = List (Option Flight)
 
 -- setting a slot behind the first leaves the first
-set_later : (s : Option Flight) (slots : Slots) (i : ℕ) (o : Option Flight) → set_flight (s ∷ slots) (suc i) o ≡ s ∷ set_flight slots i o
+pub set_later : (s : Option Flight) (slots : Slots) (i : ℕ) (o : Option Flight) → set_flight (s ∷ slots) (suc i) o ≡ s ∷ set_flight slots i o
 set_later s slots i o =
     let behind : suc i - 1 ≡ i = omega arith in
     ap (λ (b : Bool). cond b (o ∷ slots) (s ∷ set_flight slots (suc i - 1) o)) (ne_eqb (suc i) 0 (λ same. omega arith))

@@ -1,0 +1,62 @@
+-- The run of an instance takes a turn.
+use Rattle.std.proofs.Common.{◌≡◌, ℕ, true, false, List, Option, Some, None, refl, sym, ap, ◌∙◌, subst}
+use Rattle.std.specs.Prelude.{IfSome, slice_get, slice_set}
+use Rattle.cv_base.specs.PlanOf.{PlanOf}
+use Rattle.cv_exec.specs.ArenaOf.{Going, one_more}
+use Rattle.cv_histories.specs.World.{Turn, event, event_at, may_turn, turned, with_flight}
+use Rattle.cv_laws.proofs.Goings.{turn_stands}
+use Rattle.cv_manager.specs.ManagerOf.{ManagerOf}
+use Rattle.cv_world.specs.Flights.{flight_in}
+use Rattle.cv_world.specs.InstanceOf.{InstanceOf, may_turn_in}
+use Rattle.cv_world.specs.Stands.{IsGoing, IsInstance, IsWorld}
+use Rattle.cv_world.proofs.Goings.{turn_same, turned_goes, turned_is}
+use Rattle.cv_world.proofs.Instances.{flight_at}
+use Rattle.cv_world.proofs.Standing.{IsAloft, Leaves, aloft, if_disabled, if_enabled, put, put_stands, versions_in, world_in}
+
+module _ (book : ManagerOf) (drawn : ℕ) (xs : List InstanceOf) (is : IsWorld book drawn xs) (i : ℕ) (x : InstanceOf) (at : slice_get xs i ≡ Some x) where
+  -- the plan of the instance is the book's
+  plan_is : x.plan ≡ book.plan
+  plan_is = (is.each i x at).plan_is
+
+  -- the definitions ask the same of its run
+  same : (g : Going) → x.going ≡ Some g → (a : IsAloft book drawn xs i g) → may_turn book.plan a.flight ≡ may_turn_in x.plan x.going
+  same g has a =
+      turn_same book.plan is.plan_is (versions_in book) i g a.goes a.flight a.in_flight a.flying.flies
+      ∙ ap (λ (p : PlanOf). may_turn_in p (Some g)) (sym plan_is) ∙ ap (λ (o : Option Going). may_turn_in x.plan o) (sym has)
+
+  -- its run takes a turn where it may, by what the instance has
+  leaves_by : (o : Option Going) → x.going ≡ o → may_turn_in x.plan x.going ≡ true → (y : InstanceOf) → y ≡ record x { going = one_more x.going } → Leaves book drawn xs (Turn i) book drawn (slice_set xs i y)
+  leaves_by None has may y turned' = let no : may_turn_in x.plan None ≡ true = subst (λ (o : Option Going). may_turn_in x.plan o ≡ true) has may in absurd cc
+  leaves_by (Some g) has may y turned' =
+      let a = aloft book drawn xs is i x g at has in
+      let enabled : may_turn book.plan a.flight ≡ true = same g has a ∙ may in
+      let may_in : may_turn_in book.plan (Some g) ≡ true = sym (turn_same book.plan is.plan_is (versions_in book) i g a.goes a.flight a.in_flight a.flying.flies) ∙ enabled in
+      let going : y.going ≡ one_more (Some g) = ap (λ (z : InstanceOf). z.going) turned' ∙ ap one_more has in
+      let in_flight : flight_in book.plan y.going ≡ Some (turned book.plan a.flight) = ap (flight_in book.plan) going ∙ turned_is book.plan is.plan_is (versions_in book) i g a.goes a.flight a.in_flight a.flying.flies may_in in
+      let new : IsInstance book.plan (versions_in book) i y = record {
+        plan_is = ap (λ (z : InstanceOf). z.plan) turned' ∙ plan_is;
+        run = subst (λ (o : Option Going). IfSome o (IsGoing book.plan (versions_in book) i)) (sym going) (turned_goes book.plan is.plan_is (versions_in book) i g a.goes a.flight a.in_flight a.flying.flies may_in);
+      } in record {
+        happens =
+            ap (event_at book.plan (world_in book drawn xs) (Turn i)) a.there
+            ∙ if_enabled (may_turn book.plan a.flight) (with_flight (world_in book drawn xs) i (Some (turned book.plan a.flight))) enabled
+            ∙ ap Some (sym (put book drawn xs is book.past i y drawn (Some (turned book.plan a.flight)) in_flight));
+        stands = put_stands book drawn xs is book.past i y drawn (Some (turned book.plan a.flight)) in_flight (λ j h goes. goes) new (turn_stands book.plan (world_in book drawn xs) i a.flight is.stands a.there enabled);
+      }
+
+  -- whatever it has
+  pub turn_leaves : may_turn_in x.plan x.going ≡ true → (y : InstanceOf) → y ≡ record x { going = one_more x.going } → Leaves book drawn xs (Turn i) book drawn (slice_set xs i y)
+  turn_leaves = leaves_by x.going refl
+
+  -- and none where it may not, by what the instance has
+  disabled_by : (o : Option Going) → x.going ≡ o → may_turn_in x.plan x.going ≡ false → event book.plan (world_in book drawn xs) (Turn i) ≡ None
+  disabled_by None has may =
+      ap (event_at book.plan (world_in book drawn xs) (Turn i)) (flight_at book.plan xs i x at ∙ ap (λ (o : Option Going). Some (flight_in book.plan o)) has)
+  disabled_by (Some g) has may =
+      let a = aloft book drawn xs is i x g at has in
+      ap (event_at book.plan (world_in book drawn xs) (Turn i)) a.there
+      ∙ if_disabled (may_turn book.plan a.flight) (with_flight (world_in book drawn xs) i (Some (turned book.plan a.flight))) (same g has a ∙ may)
+
+  -- whatever it has
+  pub turn_disabled : may_turn_in x.plan x.going ≡ false → event book.plan (world_in book drawn xs) (Turn i) ≡ None
+  turn_disabled = disabled_by x.going refl

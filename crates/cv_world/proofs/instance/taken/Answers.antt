@@ -1,0 +1,12 @@
+use Rattle.std.proofs.Common.{◌≡◌, ◌∙◌, true, sym, subst}
+use Rattle.cv_exec.specs.ArenaOf.{is_over}
+use Rattle.cv_world.specs.InstanceOf.{going_in}
+use Rattle.cv_world.proofs.Finishing.{finished_by}
+use Rattle.cv_world.proofs.instance.taken.Goals as goal
+
+pub returns-in-None-clause-finished : goal.returns-in-None-clause-finished
+returns-in-None-clause-finished c =
+    let arena = c.args.arena.now in
+    finished_by c.finish.result arena c.finish.new.self c.requires.keeps.timed
+    (subst (λ k. is_over arena.plan (going_in k arena.going) ≡ true) (sym c.take.ensures.value ∙ c.in-None.is) c.requires.over)
+    c.finish.ensures.entry c.finish.ensures.adopted c.finish.ensures.seen c.finish.ensures.left
