@@ -1,5 +1,5 @@
 use crate::{Did, Event, World};
-use cv_base::{Adopted, End, FiredRow};
+use cv_base::{Adopted, End, FiredRow, Plan};
 use cv_image::flat;
 use cv_job::read_job;
 use std::alloc::Global;
@@ -28,18 +28,14 @@ const JOB: &str = r#"{"image":"two-slots","workers":3,"checks":2,"budget":1000,"
 {"mode":"learn","inputs":["2800010000000100","3000010000000000"]},
 {"mode":"live","inputs":["0000000000000000","0000000000000000","0000000000000000","0000000000000000","0000000000000100","0000000000000100"]}]}"#;
 
-/// The world of the job, with three instances.
-fn world_of(alloc: Global) -> Result<World, Fail> {
+/// The plan of the job.
+fn plan_of(alloc: Global) -> Result<Plan, Fail> {
     let mut bytes = Vec::new(alloc);
     for word in &TWO_SLOTS {
         bytes.extend_from_slice(&word.to_le_bytes())?;
     }
     let image = flat(alloc, bytes.as_slice())?;
-    let plan = read_job(alloc, JOB.as_bytes())?.into_plan(image);
-    if plan.workers < 3 {
-        return Err(Fail);
-    }
-    Ok(World::make(alloc, plan, 3)?)
+    Ok(read_job(alloc, JOB.as_bytes())?.into_plan(image))
 }
 
 /// Runs what an instance has to its end.
@@ -60,7 +56,9 @@ fn run(alloc: Global, world: &mut World, i: u32) -> Result<(), Fail> {
 #[test]
 fn late_wins_leave_the_installed_repair(rt: HostRuntime) -> Result<(), Fail> {
     let alloc = rt.alloc();
-    let mut world = world_of(alloc)?;
+    let plan = plan_of(alloc)?;
+    assert!(rt; plan.workers == 3);
+    let mut world = World::make(alloc, plan, 3)?;
     assert!(rt; world.step(alloc, Event::Post(0))? == Did::Disabled);
     for _ in 0..5 {
         assert!(rt; world.step(alloc, Event::Begin(0))? == Did::Done);
@@ -93,17 +91,16 @@ fn late_wins_leave_the_installed_repair(rt: HostRuntime) -> Result<(), Fail> {
     let history = manager.history();
     assert_eq!(rt; history.len(), 8);
     for entry in history.iter().skip(6) {
-        assert!(rt; entry.end == End::Exit(1299));
+        assert!(rt; matches!(entry.end, End::Exit { code: 1299 }));
         assert_eq!(rt; entry.turns, 12);
         assert!(rt; entry.adopted.as_slice() == under.as_slice());
         assert!(rt; entry.fired.as_slice() == fired.as_slice());
     }
     assert_eq!(rt; manager.changes().len(), 2);
-    if manager.case_count() > 0 && manager.repairs(0).len() > 1 {
-        assert_eq!(rt; (manager.wins(0, 0), manager.fails(0, 0)), (2, 1));
-        assert_eq!(rt; (manager.score(0, 0), manager.score(0, 1)), (1, 1));
-        assert!(rt; manager.installed(0) == Some(1));
-        return Ok(());
-    }
-    Err(Fail)
+    assert!(rt; manager.case_count() == 2);
+    assert!(rt; manager.repairs(0).len() > 1);
+    assert_eq!(rt; (manager.wins(0, 0), manager.fails(0, 0)), (2, 1));
+    assert_eq!(rt; (manager.score(0, 0), manager.score(0, 1)), (1, 1));
+    assert!(rt; manager.installed(0) == Some(1));
+    Ok(())
 }
