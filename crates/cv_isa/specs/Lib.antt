@@ -4,4 +4,5 @@ pub mod DecodeTable
 pub mod Encoding
 pub mod Examples
 pub mod Instruction
+pub mod Names
 pub mod Uses

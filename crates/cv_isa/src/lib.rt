@@ -7,6 +7,7 @@
 mod decoder;
 mod encoder;
 mod instruction;
+mod names;
 mod operation;
 mod registers;
 mod table;
@@ -16,6 +17,7 @@ mod words;
 pub use decoder::decode;
 pub use encoder::encode;
 pub use instruction::Inst;
+pub use names::{name, named, names_are_read_back, words_of_instructions};
 pub use operation::{Format, Op};
 pub use registers::RegSet;
 pub use table::{no_meaning_without_row, one_row_at_most, worked_examples};
