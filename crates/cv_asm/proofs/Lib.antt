@@ -1,0 +1,11 @@
+pub mod Capping
+pub mod Counting
+pub mod Cutting
+pub mod FirstDefinitions
+pub mod LineLaw
+pub mod ListingLaw
+pub mod Meanings
+pub mod ReadBack
+pub mod ShapeFields
+pub mod Sizes
+pub mod Stepping

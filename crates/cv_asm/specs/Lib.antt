@@ -1,0 +1,11 @@
+pub mod Assembled
+pub mod Capped
+pub mod FaultText
+pub mod Fits
+pub mod Labels
+pub mod Lines
+pub mod Listing
+pub mod Operands
+pub mod Results
+pub mod Shapes
+pub mod Source
