@@ -1,2 +1,5 @@
+pub mod Disk
+pub mod DiskLaws
+pub mod DiskMemory
 pub mod Edge
 pub mod Memory
