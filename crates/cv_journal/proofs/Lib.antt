@@ -1,0 +1,9 @@
+pub mod CutLaw
+pub mod Cutting
+pub mod EntryLaw
+pub mod HexLaw
+pub mod Loops
+pub mod NumberLaw
+pub mod ReadBack
+pub mod RowLaw
+pub mod ValuesLaw

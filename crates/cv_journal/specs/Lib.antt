@@ -1,0 +1,7 @@
+pub mod EntryReading
+pub mod JournalFaultText
+pub mod JournalOf
+pub mod LineOf
+pub mod Reading
+pub mod Steps
+pub mod Views
