@@ -1,0 +1,46 @@
+use Rattle.std.proofs.Common.{◌≡◌, ◌∙◌, ap, sym, subst, arith}
+use Rattle.cv_office.proofs.Moves.{notes, renewed_master, renews, takes}
+use Rattle.cv_office.proofs.seats.hear.Goals as goal
+use Rattle.cv_office.specs.Told.{IsMaster, IsToldBoth}
+use Rattle.cv_rule.specs.Steps.{joined, renewed}
+use Rattle.cv_rule.specs.declared.view.Role.TheVariants.{Master}
+
+-- src/seats.rt
+pub split_seat-note-requires : goal.split_seat-note-requires
+split_seat-note-requires g c = (
+  c.requires.board.1,
+  (let two = c.requires.board.0 in omega arith),
+  notes (g.C.Opens.opening c.args.board.now.shared.key) c.args.pass.now.id c.args.pass.now.me.0 (λ e. let role = c.requires.pass.role in absurd (cc (role, e))),
+)
+
+pub join_seat-requires : goal.join_seat-requires
+join_seat-requires g c =
+    let s = c.split_seat-note.ensures in (
+      c.requires.board.2,
+      s.3 ∙ c.requires.board.1,
+      ap (λ m. m.1) s.4,
+      (let two = c.requires.board.0 in omega arith),
+      takes (g.C.Opens.opening c.args.board.now.shared.key) c.args.master.now.id c.split_seat-note.result.id c.args.master.now.me.0 c.split_seat-note.result.me.0 c.requires.master.role (ap (λ m. m.0.role) s.4),
+    )
+
+pub load-requires : goal.load-requires
+load-requires g c =
+    let j = c.join_seat.ensures in
+    let v = c.join_seat.new.seat.me.0 in
+    let role : v.role ≡ Master = ap (λ m. m.0.role) j.2 ∙ c.requires.master.role in (
+      j.0 ∙ c.requires.board.2,
+      (let two = c.requires.board.0 in omega arith),
+      renews (g.C.Opens.opening c.args.board.now.shared.key) c.args.board.now.shared.table_id.slots c.join_seat.new.seat.id v c.join_seat.new.seat.me.1 (λ e. absurd (cc (role, e))),
+    )
+
+pub returns-clause-told : goal.returns-clause-told
+returns-clause-told g c =
+    let told = c.load.ensures.2 in
+    let e = ap (λ m. m.0) c.join_seat.ensures.2 ∙ ap (λ m. joined c.args.master.now.me.0 m.0) c.split_seat-note.ensures.4 in
+    subst IsToldBoth e (told.opening, told.renewal)
+
+pub returns-clause-empty : goal.returns-clause-empty
+returns-clause-empty g c =
+    let told = c.load.ensures.2 in
+    let e = ap (λ m. m.0) c.join_seat.ensures.2 in
+    subst IsMaster (sym (told.view ∙ ap (λ v. renewed v) e)) (renewed_master c.args.master.now.me.0 c.split_seat-note.result.me.0 c.requires.master (ap (λ m. m.0.hand) c.split_seat-note.ensures.4))

@@ -1,0 +1,10 @@
+pub mod Counting
+pub mod DrawLoads
+pub mod Draws
+pub mod Order
+pub mod Places
+pub mod Prefixes
+pub mod Settling
+pub mod Totals
+pub mod Versions
+pub mod WholeRule

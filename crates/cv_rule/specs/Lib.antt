@@ -1,0 +1,4 @@
+pub mod Counts
+pub mod Laws
+pub mod Rule
+pub mod Steps
