@@ -1,3 +1,5 @@
 pub mod Answers
 pub mod Held
 pub mod Lending
+pub mod PlainTurns
+pub mod Quick

@@ -80,7 +80,7 @@ impl Machine {
 
 /// Whether a jump returns.
 #[inline]
-fn pops(link: LinkKind) -> bool
+pub(crate) fn pops(link: LinkKind) -> bool
     ensures { result ≡ pops link }
 {
     matches!(link, LinkKind::Pop | LinkKind::PopPush)
@@ -88,7 +88,7 @@ fn pops(link: LinkKind) -> bool
 
 /// Whether a jump calls and does not return.
 #[inline]
-fn pushes_alone(link: LinkKind) -> bool
+pub(crate) fn pushes_alone(link: LinkKind) -> bool
     ensures { result ≡ pushes_alone link }
 {
     matches!(link, LinkKind::Push)
@@ -96,7 +96,7 @@ fn pushes_alone(link: LinkKind) -> bool
 
 /// Whether the top frame returns to the target.
 #[inline]
-fn returns_to(frames: &Frames, target: u32) -> bool
+pub(crate) fn returns_to(frames: &Frames, target: u32) -> bool
     ensures { result ≡ is_match (pop_end frames.now target) }
 {
     match frames.from_top(0) {
@@ -107,7 +107,7 @@ fn returns_to(frames: &Frames, target: u32) -> bool
 
 /// The frames after a jump whose tests have passed.
 #[inline]
-fn link_frames(frames: &mut Frames, link: LinkKind, frame: Frame, target: u32)
+pub(crate) fn link_frames(frames: &mut Frames, link: LinkKind, frame: Frame, target: u32)
     requires returns { pops link ≡ true → is_match (pop_end frames.old target) ≡ true }
     requires room { pushes_alone link ≡ true → length frames.old < MOST_FRAMES }
     ensures { frames.new ≡ frames_after link frames.old frame target }

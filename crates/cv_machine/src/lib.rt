@@ -7,10 +7,13 @@ mod executing;
 mod jumping;
 mod machine;
 mod moving;
+mod quick;
+mod quick_effects;
+mod quick_jumps;
 mod running;
 mod serving;
 mod turn;
 
 pub use machine::Machine;
-pub use running::run;
+pub use running::{Stretch, run};
 pub use turn::Turn;

@@ -1,4 +1,4 @@
-ghost use Rattle.std.specs.Prelude.{◌≡◌, ◌≤◌, [], length, map, IfOk, IsTrue, OnOk, OnErr};
+ghost use Rattle.std.specs.Prelude.{◌≡◌, ◌≤◌, [], length, map, IfOk, IsTrue, IsOk, OnOk, OnErr};
 ghost use Rattle.std.specs.Borrow.{sem};
 ghost use Rattle.cv_base.specs.Picture.{is_point, word_at};
 ghost use Rattle.cv_base.specs.Registers.{with_register, zero_registers};
@@ -10,8 +10,9 @@ ghost use Rattle.cv_machine.specs.Answers.{answer_of, left_by, told};
 ghost use Rattle.cv_machine.specs.Held.{state_of};
 ghost use Rattle.cv_machine.specs.Lending.{LendsCore};
 
+use crate::quick::Quick;
 use crate::turn::{Turn, Went};
-use cv_base::{CrashCause, End, FailureId, FailureKind, Image, Items, NoMemory, Regs, STACK_END};
+use cv_base::{CrashCause, End, FailureId, FailureKind, Image, NoMemory, Regs, STACK_END};
 use cv_heap::Blocks;
 use cv_isa::{Inst, decode};
 use cv_mem::Space;
@@ -19,6 +20,9 @@ use cv_runs::MOST_OUTPUT;
 use cv_shadow::{Core, Frames};
 use std::alloc::Global;
 use std::marker::Model;
+
+/// The most bytes of input that a run takes.
+const MOST_INPUT: u32 = 65_536;
 
 /// A hart in the middle of a run, with all that the run has changed. Contracts see the image, the
 /// core, the bytes of memory, the heap, the input that is left and the output.
@@ -30,7 +34,7 @@ pub struct Machine {
     pub(crate) core: Core,
     pub(crate) space: Space,
     pub(crate) blocks: Blocks,
-    pub(crate) input: Items<u8>,
+    pub(crate) input: Vec<u8>,
     /// How many bytes of the input were read.
     pub(crate) taken: usize,
     pub(crate) output: Vec<u8>,
@@ -41,17 +45,19 @@ impl Model for Machine {
     ghost use Rattle.cv_base.specs.Regions.{regions_of};
     ghost use Rattle.cv_isa.specs.DecodeTable.{meaning_of};
     ghost use Rattle.cv_machine.specs.Held.{Held};
+    ghost use Rattle.cv_mem.specs.Memory.{memory_of, start_memory};
     ghost use Rattle.cv_runs.specs.declared.TheConstants.{MOST_OUTPUT};
 
     ghost Value = { Held };
 
-    ghost view = { λ m. record { image = m.image; core = m.core; bytes = m.space.bytes; heap = m.blocks; input = drop m.taken m.input; output = m.output.items } };
+    ghost view = { λ m. record { image = m.image; core = m.core; bytes = m.space.bytes; heap = m.blocks; input = drop m.taken m.input.items; output = m.output.items } };
 
-    ghost invariant = { λ m. (m.insts.items ≡ map meaning_of m.image.words) × (m.space.regions ≡ regions_of m.image) × (m.taken ≤ length m.input) × (length m.input ≤ 65536) × (length m.output.items ≤ MOST_OUTPUT) × (MOST_OUTPUT ≤ vec_capacity m.output) };
+    ghost invariant = { λ m. (m.insts.items ≡ map meaning_of m.image.words) × (m.space.regions ≡ regions_of m.image) × (memory_of m.space.start ≡ start_memory m.image.segments) × (m.taken ≤ length m.input.items) × (length m.input.items ≤ 65536) × (65536 ≤ vec_capacity m.input) × (length m.output.items ≤ MOST_OUTPUT) × (MOST_OUTPUT ≤ vec_capacity m.output) };
 }
 
 impl Machine {
-    /// The machine at the start of a run of the image without input.
+    /// The machine at the start of a run of the image without input. Room is taken for the largest
+    /// input and output.
     pub fn make(alloc: Global, image: &Image) -> Result<Machine, NoMemory>
         ensures image { IfOk result (λ m. m.image ≡ image.now) }
         ensures start { IfOk result (λ m. state_of m ≡ start_state image.now []) }
@@ -61,6 +67,7 @@ impl Machine {
         let space = Space::make(alloc, image)?;
         let blocks = Blocks::make(alloc)?;
         let core = start_core(alloc, image)?;
+        let input = Vec::with_capacity(alloc, MOST_INPUT as usize)?;
         let output = Vec::with_capacity(alloc, MOST_OUTPUT as usize)?;
         let image = image.copied(alloc)?;
         Ok(Machine {
@@ -69,29 +76,29 @@ impl Machine {
             core,
             space,
             blocks,
-            input: Items::make(alloc),
+            input,
             taken: 0,
             output,
         })
     }
 
-    /// Begins a run anew: the start state with an input of at most 65,536 bytes. Where memory is
-    /// refused the machine stays as it was.
-    pub fn begin(&mut self, alloc: Global, input: &[u8]) -> Result<(), NoMemory>
+    /// Begins a run anew: the start state with an input of at most 65,536 bytes. It takes no memory,
+    /// and the time that the pages want which the last run wrote.
+    pub fn begin(&mut self, _alloc: Global, input: &[u8]) -> Result<(), NoMemory>
         requires { length input.now ≤ 65536 }
         ensures image { self.new.image ≡ self.old.image }
         ensures start { OnOk result (state_of self.new ≡ start_state self.old.image input.now) }
         ensures point { OnOk result (IsTrue (is_point self.new.image self.new.core.pc)) }
         ensures err { OnErr result (self.new ≡ self.old) }
+        ensures ok { IsOk result }
     {
-        let input = Items::from_slice(alloc, input)?;
-        let space = Space::make(alloc, &self.image)?;
         self.core.pc = self.image.entry;
         self.core.regs = start_registers();
         self.core.frames.clear();
-        self.space = space;
+        self.space.reset();
         self.blocks.clear();
-        self.input = input;
+        self.input.clear();
+        self.input.extend_from_slice(input).unwrap();
         self.taken = 0;
         self.output.clear();
         Ok(())
@@ -105,7 +112,8 @@ impl Machine {
         let core = self.core.copied(alloc)?;
         let space = self.space.copied(alloc)?;
         let blocks = self.blocks.copied(alloc)?;
-        let input = Items::from_slice(alloc, self.input.as_slice())?;
+        let mut input = Vec::with_capacity(alloc, MOST_INPUT as usize)?;
+        input.extend_from_slice(self.input.as_slice())?;
         let mut output = Vec::with_capacity(alloc, MOST_OUTPUT as usize)?;
         output.extend_from_slice(self.output.as_slice())?;
         let image = self.image.copied(alloc)?;
@@ -130,8 +138,30 @@ impl Machine {
         ensures image { self.new.image ≡ self.old.image }
         ensures point { IsTrue (is_point self.new.image self.new.core.pc) }
     {
+        let at = self.place();
+        match self.quick(at) {
+            Quick::On(next) => {
+                self.stand_at(next);
+                Turn::Next { transfer: false }
+            }
+            Quick::Jump(next) => {
+                self.stand_at(next);
+                Turn::Next { transfer: true }
+            }
+            Quick::Slow => self.other_turn(),
+        }
+    }
+
+    /// A turn that is not quick.
+    fn other_turn(&mut self) -> Turn
+        requires { IsTrue (is_point self.old.image self.old.core.pc) }
+        ensures answer { result ≡ answer_of (turn_of self.old.image (state_of self.old)) }
+        ensures state { state_of self.new ≡ left_by (turn_of self.old.image (state_of self.old)) (state_of self.old) }
+        ensures image { self.new.image ≡ self.old.image }
+        ensures point { IsTrue (is_point self.new.image self.new.core.pc) }
+    {
         let mut end = End::Budget;
-        match self.step(&mut end) {
+        match self.whole_turn(&mut end) {
             Went::On { transfer } => Turn::Next { transfer },
             Went::Over => Turn::Ended(end),
         }

@@ -33,7 +33,7 @@ impl Machine {
 
     /// What a load finds in memory.
     #[inline]
-    fn loaded(&self, address: u32, size: u32) -> Result<u32, MemFault>
+    pub(crate) fn loaded(&self, address: u32, size: u32) -> Result<u32, MemFault>
         requires { IsSize size }
         ensures fault { result_err result ≡ load_fault (regions_of self.now.image) address size }
         ensures value { IfOk result (λ v. v ≡ loaded (memory_of self.now.bytes) address size) }
@@ -71,7 +71,7 @@ impl Machine {
 
     /// Why a store is refused, if it is.
     #[inline]
-    fn store_fault(&self, address: u32, size: u32) -> Option<MemFault>
+    pub(crate) fn store_fault(&self, address: u32, size: u32) -> Option<MemFault>
         requires { IsSize size }
         ensures { result ≡ store_fault (regions_of self.now.image) address size }
     {
@@ -80,7 +80,7 @@ impl Machine {
 
     /// The low bytes of a value go to memory.
     #[inline]
-    fn put(&mut self, address: u32, size: u32, value: u32)
+    pub(crate) fn put(&mut self, address: u32, size: u32, value: u32)
         requires sized { IsSize size }
         requires allowed { store_fault (regions_of self.old.image) address size ≡ None }
         ensures state { state_of self.new ≡ record (state_of self.old) { memory = stored (memory_of self.old.bytes) address size value } }
@@ -120,7 +120,7 @@ fn touches_heap(address: u32, count: u32) -> bool
 
 /// The bytes that a load or a store moves.
 #[inline]
-fn size_of(op: Op) -> u32
+pub(crate) fn size_of(op: Op) -> u32
     ensures value { result ≡ size_of op }
     ensures size { IsSize result }
     ensures some { 1 ≤ result }
@@ -134,7 +134,7 @@ fn size_of(op: Op) -> u32
 
 /// LB and LH extend the sign.
 #[inline]
-fn extended(op: Op, value: u32) -> u32
+pub(crate) fn extended(op: Op, value: u32) -> u32
     requires { value < 2 ^ (8 * size_of op) }
     ensures { result ≡ extended op value }
 {

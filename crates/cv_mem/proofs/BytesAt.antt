@@ -24,13 +24,13 @@ is_below a end q l = grind (arith, nat_tests)
 is_above : (a end q : ℕ) → end ≤ q → is_within a end q ≡ false
 is_above a end q u = grind (arith, nat_tests)
 
-with_bytes_in : (m : ℕ → ℕ) (a : ℕ) (bs : List ℕ) (q : ℕ) → a ≤ q → q < a + length bs → with_bytes m a bs q ≡ slice_index bs (q - a)
+pub with_bytes_in : (m : ℕ → ℕ) (a : ℕ) (bs : List ℕ) (q : ℕ) → a ≤ q → q < a + length bs → with_bytes m a bs q ≡ slice_index bs (q - a)
 with_bytes_in m a bs q l u = rw (is_in a (a + length bs) q l u, with_bytes) refl
 
-with_bytes_below : (m : ℕ → ℕ) (a : ℕ) (bs : List ℕ) (q : ℕ) → q < a → with_bytes m a bs q ≡ m q
+pub with_bytes_below : (m : ℕ → ℕ) (a : ℕ) (bs : List ℕ) (q : ℕ) → q < a → with_bytes m a bs q ≡ m q
 with_bytes_below m a bs q l = rw (is_below a (a + length bs) q l, with_bytes) refl
 
-with_bytes_above : (m : ℕ → ℕ) (a : ℕ) (bs : List ℕ) (q : ℕ) → a + length bs ≤ q → with_bytes m a bs q ≡ m q
+pub with_bytes_above : (m : ℕ → ℕ) (a : ℕ) (bs : List ℕ) (q : ℕ) → a + length bs ≤ q → with_bytes m a bs q ≡ m q
 with_bytes_above m a bs q u = rw (is_above a (a + length bs) q u, with_bytes) refl
 
 -- the same, from what is at each address

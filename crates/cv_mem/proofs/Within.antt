@@ -75,7 +75,7 @@ stores false true z h = cc
 stores false false true h = refl
 stores false false false h = cc
 
-some_size : (n : ℕ) → IsSize n → 0 < n
+pub some_size : (n : ℕ) → IsSize n → 0 < n
 some_size n h = grind (arith, nat_tests)
 
 pub load_within : (s t : SpaceOf) (a n : ℕ) (bs : List ℕ) → s ≡ t → IsSpace s → IsSize n → None ≡ load_fault t.regions a n → bs ≡ s.bytes → a + n ≤ length bs

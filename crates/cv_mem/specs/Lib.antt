@@ -1,3 +1,4 @@
 pub mod Access
 pub mod Memory
+pub mod Pages
 pub mod SpaceOf

@@ -1,5 +1,5 @@
--- The memory of a run: the bytes from address 0 on, and the regions of the segments
--- (docs/MACHINE.md, "Regions").
+-- The memory of a run: the bytes from address 0 on, the regions of the segments, and the bytes at
+-- the start of the run (docs/MACHINE.md, "Regions").
 use Rattle.std.specs.Prelude.{◌≡◌, ℕ, Bool, true, ◌||◌, ◌==◌, nat_le, IsTrue, List, length, Some, None, Result, Ok, Err}
 use Rattle.std.specs.List.{list_all}
 use Rattle.cv_base.specs.declared.TheConstants.{HEAP_START}
@@ -14,6 +14,7 @@ memory_size = 0x800000
 pub record SpaceOf : Type 0 where
   pub bytes : List ℕ
   pub regions : List Region
+  pub start : List ℕ  -- up to the end of the last segment; 0 from there on
 
 -- the regions of segments lie below the heap
 abbrev pub are_low : List Region → Bool

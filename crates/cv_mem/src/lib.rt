@@ -4,6 +4,7 @@
 
 mod bytes;
 mod laws;
+mod pages;
 mod regions;
 mod segments;
 mod space;

@@ -1,4 +1,4 @@
-ghost use Rattle.std.specs.Prelude.{◌≡◌, ◌≤◌, true, [], IfOk, length, map};
+ghost use Rattle.std.specs.Prelude.{◌≡◌, ℕ, ◌≤◌, true, [], IfOk, length, map};
 ghost use Rattle.std.specs.List.{list_all};
 ghost use Rattle.cv_base.specs.declared.TheConstants.{HEAP_START};
 ghost use Rattle.cv_base.specs.declared.image.Segment.{Segment};
@@ -38,4 +38,28 @@ pub fn write_segments(bytes: &mut [u8], segments: &[Segment])
             segment.bytes.as_slice(),
         );
     }
+}
+
+/// The bytes at the start of a run up to the end of the last segment; the rest are 0.
+pub fn start_bytes(alloc: Global, bytes: &[u8], segments: &[Segment]) -> Result<Vec<u8>, NoMemory>
+    requires { memory_of bytes.now ≡ start_memory segments.now }
+    ensures { IfOk result (λ v. memory_of v.items ≡ start_memory segments.now) }
+{
+    let end = end_of(segments).min(bytes.len());
+    let start = Vec::from_slice(alloc, &bytes[..end])?;
+    Ok(start)
+}
+
+/// The end of the last segment, and 0 without one.
+fn end_of(segments: &[Segment]) -> usize
+    ensures { (a : ℕ) → result ≤ a → start_memory segments.now a ≡ 0 }
+{
+    let mut end = 0;
+    for segment in segments {
+        let last = segment.region.end as usize;
+        if end < last {
+            end = last;
+        }
+    }
+    end
 }

@@ -6,8 +6,9 @@ ghost use Rattle.cv_mem.specs.Memory.{memory_of, start_memory, with_bytes, bytes
 ghost use Rattle.cv_mem.specs.SpaceOf.{IsSize, load_of};
 
 use crate::bytes::{number_at, part, put_number, size, write_at, zeros};
+use crate::pages::{mark, mark_all, put_back, unwritten};
 use crate::regions::{Access, each_is_open, lies_high, some_is_code};
-use crate::segments::{regions_in, write_segments};
+use crate::segments::{regions_in, start_bytes, write_segments};
 use cv_base::{Image, Items, NoMemory, Region};
 use std::alloc::Global;
 use std::marker::Model;
@@ -29,22 +30,27 @@ pub enum MemFault {
 /// segments. The heap and the stack can be read and written throughout, a region as its flags
 /// say, and nothing else (docs/MACHINE.md, "Regions").
 ///
-/// Contracts see it as its bytes, of which `memory_of` makes a function from address to byte, and
-/// its regions.
+/// Contracts see it as its bytes, of which `memory_of` makes a function from address to byte, its
+/// regions, and the bytes that it had at the start of the run.
 #[derive(Drop)]
 pub struct Space {
     bytes: Vec<u8>,
     regions: Items<Region>,
+    /// The bytes at the start of the run, up to the end of the last segment.
+    start: Vec<u8>,
+    /// Whether each page was written since the start of the run.
+    written: Vec<bool>,
 }
 
 impl Model for Space {
+    ghost use Rattle.cv_mem.specs.Pages.{IsKept};
     ghost use Rattle.cv_mem.specs.SpaceOf.{SpaceOf, IsSpace};
 
     ghost Value = { SpaceOf };
 
-    ghost view = { λ s. record { bytes = s.bytes.items; regions = s.regions } };
+    ghost view = { λ s. record { bytes = s.bytes.items; regions = s.regions; start = s.start.items } };
 
-    ghost invariant = { λ s. IsSpace (record { bytes = s.bytes.items; regions = s.regions }) };
+    ghost invariant = { λ s. IsSpace (record { bytes = s.bytes.items; regions = s.regions; start = s.start.items }) × IsKept s.bytes.items s.start.items s.written.items };
 }
 
 impl Space {
@@ -52,12 +58,20 @@ impl Space {
     pub fn make(alloc: Global, image: &Image) -> Result<Space, NoMemory>
         ensures memory { IfOk result (λ s. memory_of s.bytes ≡ start_memory image.now.segments) }
         ensures regions { IfOk result (λ s. s.regions ≡ regions_of image.now) }
+        ensures start { IfOk result (λ s. memory_of s.start ≡ start_memory image.now.segments) }
     {
         let segments = image.segments.as_slice();
         let regions = regions_in(alloc, segments)?;
         let mut bytes = zeros(alloc, size())?;
         write_segments(&mut bytes, segments);
-        Ok(Space { bytes, regions })
+        let start = start_bytes(alloc, &bytes, segments)?;
+        let written = unwritten(alloc)?;
+        Ok(Space {
+            bytes,
+            regions,
+            start,
+            written,
+        })
     }
 
     /// The number of 1, 2 or 4 bytes from an address on, the lowest byte first.
@@ -130,7 +144,9 @@ impl Space {
         ensures memory { memory_of self.new.bytes
             ≡ stored (memory_of self.old.bytes) addr size value }
         ensures regions { self.new.regions ≡ self.old.regions }
+        ensures start { self.new.start ≡ self.old.start }
     {
+        mark(self.written.as_mut_slice(), addr as usize);
         put_number(self.bytes.as_mut_slice(), addr as usize, size, value);
     }
 
@@ -146,6 +162,7 @@ impl Space {
             ≡ stored (memory_of self.old.bytes) addr size value) }
         ensures err { OnErr result (self.new ≡ self.old) }
         ensures regions { self.new.regions ≡ self.old.regions }
+        ensures start { self.new.start ≡ self.old.start }
     {
         match self.store_fault(addr, size) {
             Some(fault) => Err(fault),
@@ -190,8 +207,10 @@ impl Space {
         ensures memory { memory_of self.new.bytes
             ≡ with_bytes (memory_of self.old.bytes) addr bytes.now }
         ensures regions { self.new.regions ≡ self.old.regions }
+        ensures start { self.new.start ≡ self.old.start }
     {
         if !bytes.is_empty() {
+            mark_all(self.written.as_mut_slice(), addr as usize, bytes.len());
             write_at(self.bytes.as_mut_slice(), addr as usize, bytes);
         }
     }
@@ -203,13 +222,34 @@ impl Space {
         self.bytes.get(addr as usize).copied().unwrap_or(0)
     }
 
+    /// The memory as `make` of the same image gives it. It takes no memory, and the time that the
+    /// pages of 4,096 bytes want which were written since `make` or the last `reset`.
+    pub fn reset(&mut self)
+        ensures memory { memory_of self.new.bytes ≡ memory_of self.old.start }
+        ensures regions { self.new.regions ≡ self.old.regions }
+        ensures start { self.new.start ≡ self.old.start }
+    {
+        put_back(
+            self.bytes.as_mut_slice(),
+            self.start.as_slice(),
+            self.written.as_mut_slice(),
+        );
+    }
+
     /// An equal memory.
     pub fn copied(&self, alloc: Global) -> Result<Space, NoMemory>
         ensures { IfOk result (λ s. s ≡ self.now) }
     {
         let bytes = Vec::from_slice(alloc, self.bytes.as_slice())?;
         let regions = Items::from_slice(alloc, self.regions.as_slice())?;
-        Ok(Space { bytes, regions })
+        let start = Vec::from_slice(alloc, self.start.as_slice())?;
+        let written = Vec::from_slice(alloc, self.written.as_slice())?;
+        Ok(Space {
+            bytes,
+            regions,
+            start,
+            written,
+        })
     }
 }
 

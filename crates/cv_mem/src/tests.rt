@@ -53,3 +53,16 @@ fn a_copy_holds_what_the_run_stored(rt: HostRuntime) -> Result<(), Fail> {
     assert!(rt; !copy.readable(0x1000, 0xffff_ffff));
     Ok(())
 }
+
+#[test]
+fn reset_puts_back_data_and_stack(rt: HostRuntime) -> Result<(), Fail> {
+    let image = image(rt.alloc())?;
+    let mut space = Space::make(rt.alloc(), &image)?;
+    assert_eq!(rt; space.store(0x100a, 2, 0xabcd), Ok(()));
+    space.fill(0x006f_fffe, [1u8, 2, 3, 4].as_slice());
+    space.reset();
+    assert_eq!(rt; space.load(0x1008, 4), Ok(0x0809_0201));
+    assert_eq!(rt; space.load(0x0070_0000, 4), Ok(0));
+    assert_eq!(rt; space.load(0x006f_fffc, 4), Ok(0));
+    Ok(())
+}
