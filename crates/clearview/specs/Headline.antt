@@ -4,7 +4,7 @@ use Rattle.std.specs.declared.alloc.Global.{Global}
 use Rattle.std.specs.declared.string.String.{String}
 use Rattle.cv_base.specs.PlanOf.{PlanOf}
 use Rattle.clearview.specs.declared.cause.Cause.{Cause}
-use Rattle.cv_core.specs.Unfired.{UnfiredArePlain}
+use Rattle.cv_histories.specs.Unfired.{UnfiredArePlain}
 use Rattle.cv_histories.specs.Legal.{IsLegal, IsWhole}
 use Rattle.cv_histories.specs.Serial.{serial}
 use Rattle.cv_manager.specs.ManagerOf.{ManagerOf}

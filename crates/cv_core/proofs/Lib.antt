@@ -1,4 +1,3 @@
 pub mod NextEntry
-pub mod Plain
 pub mod Posting
 pub mod Room

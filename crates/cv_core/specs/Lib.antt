@@ -1,2 +1,1 @@
 pub mod NewestOf
-pub mod Unfired

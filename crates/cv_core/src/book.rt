@@ -1,15 +1,16 @@
 ghost use Rattle.std.specs.Prelude.{◌≡◌, false, IfErr, IfOk, OnErr, OnOk};
 ghost use Rattle.cv_base.specs.WellFormed.{IsImage};
 ghost use Rattle.cv_blocks.specs.TextMap.{text_only};
-ghost use Rattle.cv_core.specs.Unfired.{UnfiredArePlain};
 ghost use Rattle.cv_histories.specs.Legal.{IsLegal, MayFollow};
 ghost use Rattle.cv_histories.specs.Runs.{run_at};
 ghost use Rattle.cv_histories.specs.Seen.{is_live, observed_of};
+ghost use Rattle.cv_histories.specs.Unfired.{UnfiredArePlain};
 ghost use Rattle.cv_manager.specs.ManagerOf.{empty_manager, version_added, with_entry};
 ghost use Rattle.cv_observe.specs.StandsFor.{StandsFor};
 
 use cv_base::{NoMemory, Plan};
-use cv_exec::{Record, unfired_is_plain};
+use cv_exec::Record;
+use cv_laws::legal_is_plain;
 use cv_manager::{Manager, sites_are_points};
 use cv_observe::Summary;
 use std::alloc::Global;
@@ -56,13 +57,12 @@ impl Book {
     }
 
     /// What the history says: its entries, cases, classes, scores, installations and versions.
-    #[tactic(auto, using(crate::proofs::Plain::unfired_are_plain))]
     pub fn manager(&self) -> &Manager
         ensures value { result.now ≡ self.now }
         ensures legal { IsLegal self.now.plan self.now.past }
         ensures unfired { UnfiredArePlain self.now.plan self.now.past }
     {
-        unfired_is_plain();
+        legal_is_plain();
         &self.manager
     }
 

@@ -1,5 +1,5 @@
 -- One more block entry among the versions that a live run has adopted.
-use Rattle.std.proofs.Common.{◌≡◌, ◌≢◌, ◌<◌, ◌≤◌, ◌+◌, ◌-◌, ℕ, suc, Bool, true, false, List, [], ◌∷◌, ◌++◌, length, get_or, set, Option, Some, None, refl, sym, ap, ◌∙◌, subst, append_assoc, arith, length-append}
+use Rattle.std.proofs.Common.{◌≡◌, ◌≢◌, ◌<◌, ◌≤◌, ◌+◌, ◌-◌, ℕ, zero, suc, Bool, true, false, List, [], ◌∷◌, ◌++◌, length, get_or, set, Option, Some, None, refl, sym, ap, ◌∙◌, subst, append_assoc, arith, length-append}
 use Rattle.std.specs.Prelude.{◌==◌, if◌then◌else◌, replicate, slice_get, IsSome}
 use Rattle.std.specs.List.{AllByRecursion, flat_map}
 use Rattle.std.proofs.lemmas.Bool.Decides.{nat_tests}
@@ -7,12 +7,13 @@ use Rattle.std.proofs.lemmas.List.{append-nil, length-replicate, replicate-appen
 use Rattle.std.proofs.lemmas.List.Folds.{flat_map-map}
 use Rattle.std.proofs.lemmas.Option.{slice_get_read}
 use Rattle.cv_base.specs.declared.entries.Adopted.{Adopted}
-use Rattle.cv_exec.specs.LiveRun.{HaveTables, MayAdopt, Span, one_entry_more, rows_of, tables_of}
+use Rattle.cv_exec.specs.LiveRun.{HaveTables, MayAdopt, Span, adoptions_of, one_entry_more, rows_of}
 use Rattle.cv_exec.specs.Keeping.{IsNotBelow, is_of_version, last_span, last_table, table_if, table_in}
-use Rattle.cv_histories.specs.Honest.{AreTables, IsJoined}
+use Rattle.cv_histories.specs.Flight.{Adoption}
+use Rattle.cv_histories.specs.Honest.{IsJoined}
 use Rattle.cv_histories.specs.Legal.{NeverFalls}
 use Rattle.cv_histories.specs.Rows.{written}
-use Rattle.cv_laws.proofs.OneRow.{row_tables}
+use Rattle.cv_laws.specs.Statements.{AreOf}
 use Rattle.cv_runs.specs.PatchedRun.{Table}
 
 same_if : (a b : ℕ) → (a == b) ≡ true → a ≡ b
@@ -147,10 +148,14 @@ table_by : (version : ℕ) (table : Table) (o : Option Span) (s : Span) → Know
 table_by version table None s known is same = cc
 table_by version table (Some t) s known is same = let e : t ≡ s = cc in subst (λ (x : Span). x.table ≡ table) e (known.1 (ap (λ (x : Span). x.version) e ∙ same))
 
--- the tables of the block entries, and their versions
-pub tables_more : (version : ℕ) (table : Table) (spans : List Span) → MayAdopt version table spans → tables_of (one_entry_more version table spans) ≡ tables_of spans ++ table ∷ []
-tables_more version table spans may =
-    spread_more (λ v t. t) version table spans (λ s is same. table_by version table (last_span spans) s (adopted_last version table spans may) is same)
+-- what the block entries adopt, and their versions
+abbrev adoption : ℕ → Table → Adoption
+adoption version table = record { version = version; table = table }
+
+pub adoptions_more : (version : ℕ) (table : Table) (spans : List Span) → MayAdopt version table spans → adoptions_of (one_entry_more version table spans) ≡ adoptions_of spans ++ record { version = version; table = table } ∷ []
+adoptions_more version table spans may =
+    spread_more adoption version table spans
+    (λ s is same. ap (λ (v : ℕ). adoption v s.table) same ∙ ap (adoption version) (table_by version table (last_span spans) s (adopted_last version table spans may) is same))
 
 versions_of : (spans : List Span) → written (rows_of spans) ≡ spread (λ (s : Span). s.version) spans
 versions_of spans = flat_map-map (λ (a : Adopted). replicate a.entries a.version) (λ (s : Span). record { version = s.version; entries = s.entries }) spans
@@ -218,10 +223,14 @@ rises_more version table (s ∷ t ∷ rest) may rises =
 
 -- ---- the tables of what was adopted
 
-pub are_tables : (versions : List Table) (spans : List Span) → HaveTables versions spans → AreTables versions (written (rows_of spans)) (tables_of spans)
-are_tables versions [] have = tt
-are_tables versions (s ∷ spans) have =
-    row_tables versions s.version s.table s.entries (written (rows_of spans)) (tables_of spans) have.0 (are_tables versions spans have.1)
+copies_of : (versions : List Table) (a : Adoption) (n : ℕ) (rest : List Adoption) → slice_get versions a.version ≡ Some a.table → AreOf versions rest → AreOf versions (replicate n a ++ rest)
+copies_of versions a zero rest is are = are
+copies_of versions a (suc n) rest is are = (is, copies_of versions a n rest is are)
+
+-- where versions have the tables of what was adopted, so do the adoptions
+pub adoptions_are : (versions : List Table) (spans : List Span) → HaveTables versions spans → AreOf versions (adoptions_of spans)
+adoptions_are versions [] have = tt
+adoptions_are versions (s ∷ spans) have = copies_of versions (adoption s.version s.table) s.entries (adoptions_of spans) have.0 (adoptions_are versions spans have.1)
 
 there_by : (versions : List Table) (version : ℕ) (table : Table) (s : Span) (b : Bool) → (s.version == version) ≡ b → slice_get versions s.version ≡ Some s.table → (if b then Some s.table else None) ≡ Some table → slice_get versions version ≡ Some table
 there_by versions version table s true test here is = rw (← same_if s.version version test) (here ∙ is)
@@ -238,15 +247,15 @@ there versions version table spans have is = there_with versions version table s
 
 -- ---- how one entry more is written down
 
-few_entries : (spans : List Span) (s : Span) → last_span spans ≡ Some s → s.entries ≤ length (tables_of spans)
+few_entries : (spans : List Span) (s : Span) → last_span spans ≡ Some s → s.entries ≤ length (adoptions_of spans)
 few_entries [] s is = cc
 few_entries (a ∷ []) s is =
     let same : a ≡ s = cc in
-    let count : length (replicate a.entries a.table ++ []) ≡ a.entries = ap length (append-nil (replicate a.entries a.table)) ∙ length-replicate a.entries a.table in
-    subst (λ (x : Span). x.entries ≤ length (tables_of (a ∷ []))) same (omega arith)
+    let count : length (replicate a.entries (adoption a.version a.table) ++ []) ≡ a.entries = ap length (append-nil (replicate a.entries (adoption a.version a.table))) ∙ length-replicate a.entries (adoption a.version a.table) in
+    subst (λ (x : Span). x.entries ≤ length (adoptions_of (a ∷ []))) same (omega arith)
 few_entries (a ∷ b ∷ rest) s is =
     let below = few_entries (b ∷ rest) s (sym (last_cons a b rest) ∙ is) in
-    let count : length (replicate a.entries a.table ++ tables_of (b ∷ rest)) ≡ length (replicate a.entries a.table) + length (tables_of (b ∷ rest)) = length-append (replicate a.entries a.table) (tables_of (b ∷ rest)) in
+    let count : length (replicate a.entries (adoption a.version a.table) ++ adoptions_of (b ∷ rest)) ≡ length (replicate a.entries (adoption a.version a.table)) + length (adoptions_of (b ∷ rest)) = length-append (replicate a.entries (adoption a.version a.table)) (adoptions_of (b ∷ rest)) in
     omega arith
 
 set_behind : (a : Span) (spans : List Span) (x : Span) → 0 < length spans → set (a ∷ spans) (length (a ∷ spans) - 1) x ≡ a ∷ set spans (length spans - 1) x
@@ -263,7 +272,7 @@ read_last version [] at s place same is = cc
 read_last version (a ∷ rest) at s place same is =
     ap (slice_get (a ∷ rest)) (sym place) ∙ slice_get_read (a ∷ rest) (length (a ∷ rest)) at s refl (omega arith) is
 
-pub entries_fit : (version : ℕ) (spans : List Span) (at : ℕ) (s : Span) → at ≡ length spans - 1 → is_of_version version (last_span spans) ≡ true → s ≡ get_or spans at s → s.entries ≤ length (tables_of spans)
+pub entries_fit : (version : ℕ) (spans : List Span) (at : ℕ) (s : Span) → at ≡ length spans - 1 → is_of_version version (last_span spans) ≡ true → s ≡ get_or spans at s → s.entries ≤ length (adoptions_of spans)
 entries_fit version spans at s place same is = few_entries spans s (read_last version spans at s place same is)
 
 -- the last version gets one entry more

@@ -1,5 +1,5 @@
 -- The versions that an adopter answers, and what a live run has adopted of them.
-use Rattle.std.proofs.Common.{◌≡◌, ◌≤◌, ℕ, List, [], ◌∷◌, ◌++◌, Option, Some, None, refl, sym, ap, ◌∙◌, append_assoc}
+use Rattle.std.proofs.Common.{◌≡◌, ◌≤◌, ℕ, zero, suc, List, [], ◌∷◌, ◌++◌, Option, Some, None, refl, sym, ap, ◌∙◌, append_assoc}
 use Rattle.std.specs.Prelude.{slice_get, IsSome}
 use Rattle.std.specs.List.{AllByRecursion}
 use Rattle.cv_exec.specs.ArenaOf.{Going, adopted_in, entered}
@@ -8,10 +8,20 @@ use Rattle.cv_exec.specs.Keeping.{IsNotBelow, last_span}
 use Rattle.cv_exec.proofs.Adopting.{have_more, not_below, rises_more, versions_more, written_more}
 use Rattle.cv_histories.specs.Legal.{NeverFalls}
 use Rattle.cv_histories.specs.Rows.{written}
-use Rattle.cv_laws.proofs.Each.{weaker}
-use Rattle.cv_laws.proofs.PatchedSteps.{in_front}
 use Rattle.cv_patch.specs.Adopting.{IsGrown}
 use Rattle.cv_runs.specs.PatchedRun.{Table}
+
+-- what follows from a fact of each
+weaker : {X : Type 0} (P Q : X → Type 0) → ((x : X) → P x → Q x) → (xs : List X) → AllByRecursion P xs → AllByRecursion Q xs
+weaker P Q step [] all = tt
+weaker P Q step (x ∷ xs) all = (step x all.0, weaker P Q step xs all.1)
+
+-- with others behind it
+in_front : (xs ys : List Table) (k : ℕ) (t : Table) → slice_get xs k ≡ Some t → slice_get (xs ++ ys) k ≡ Some t
+in_front [] ys zero t is = cc
+in_front [] ys (suc k) t is = cc
+in_front (x ∷ xs) ys zero t is = is
+in_front (x ∷ xs) ys (suc k) t is = in_front xs ys k t is
 
 -- what an adopter answers is not below what a run has adopted of its answers
 pub above_all : (HasAnswered : ℕ → Type 0) (version : ℕ) (spans : List Span) → ((v : ℕ) → HasAnswered v → v ≤ version) → AllByRecursion (λ (s : Span). HasAnswered s.version) spans → IsNotBelow version (last_span spans)

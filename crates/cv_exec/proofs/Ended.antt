@@ -1,122 +1,193 @@
--- A started run that has ended: its entry is honest.
-use Rattle.std.proofs.Common.{◌≡◌, ◌<◌, ◌≤◌, ℕ, List, [], length, take, Option, Some, None, refl, sym, ap, ◌∙◌, arith}
-use Rattle.std.specs.Prelude.{◌==◌}
-use Rattle.std.proofs.lemmas.List.{length-map, take_all}
+-- A started run that has ended: its entry.
+use Rattle.std.proofs.Common.{◌≡◌, ◌<◌, ◌≤◌, ℕ, Bool, true, false, List, [], ◌∷◌, length, map, Option, Some, None, Result, Ok, Err, refl, sym, ap, ◌∙◌, subst, arith}
+use Rattle.std.specs.Prelude.{reverse, option_map, option_and_then, IfOk}
+use Rattle.std.proofs.lemmas.List.{length-map, length-reverse, reverse-reverse}
+use Rattle.std.proofs.lemmas.Option.{same_Some}
 use Rattle.cv_base.specs.declared.ends.End.{End}
+use Rattle.cv_base.specs.declared.entries.Adopted.{Adopted}
 use Rattle.cv_base.specs.declared.entries.Entry.{Entry}
+use Rattle.cv_base.specs.declared.entries.FiredRow.{FiredRow}
+use Rattle.cv_base.specs.declared.entries.TallyRow.{TallyRow}
 use Rattle.cv_base.specs.declared.plan.Mode.{Mode}
+use Rattle.cv_base.specs.declared.plan.Mode.TheVariants.{Learn, Live}
 use Rattle.cv_base.specs.PlanOf.{PlanOf}
-use Rattle.cv_exec.specs.ArenaOf.{Going, seen_in_mode, seen_of, seen_so_far}
-use Rattle.cv_exec.specs.declared.arena.Started.{Started}
+use Rattle.cv_exec.specs.declared.ending.Account.{Account}
+use Rattle.cv_exec.specs.declared.flying.Flying.{Flying}
+use Rattle.cv_exec.specs.declared.flying.Flying.TheVariants.{Nothing, Learning, Living}
+use Rattle.cv_exec.specs.declared.flying.Started.{Started}
 use Rattle.cv_exec.specs.declared.patched.Patched.{Patched}
-use Rattle.cv_exec.specs.Ending.{IsTold, live_entry_of, plain_entry}
-use Rattle.cv_exec.specs.LiveRun.{HaveTables, tables_of}
-use Rattle.cv_exec.specs.LiveStands.{IsLiveStarted, LiveOver}
+use Rattle.cv_exec.specs.ArenaOf.{adopted_in, entry_of_going, flight_in, flight_of, seen_in, seen_so_far}
+use Rattle.cv_exec.specs.ArenaStands.{EndedSo, IsStarted, Keeps, Stands, StandsBy, ending_of, going_of, going_with, with_end}
+use Rattle.cv_exec.specs.Ending.{IsTold, ended_entry, live_told, plain_told}
+use Rattle.cv_exec.specs.LiveRun.{HaveTables, Span, adoptions_of, rows_of}
 use Rattle.cv_exec.specs.RecordOf.{IsHonestUnder}
-use Rattle.cv_exec.specs.StandsAt.{IsOver, IsStarted, IsStartedIn, going_of, spans_of}
-use Rattle.cv_exec.proofs.Adopting.{are_tables}
-use Rattle.cv_histories.specs.Honest.{IsHonest, Tells}
+use Rattle.cv_exec.proofs.Adopting.{adoptions_are}
+use Rattle.cv_exec.proofs.Standing.{flight_is}
+use Rattle.cv_histories.specs.Flight.{Flight, begun, done_in, flight_entry, flown, has_ended, joined}
+use Rattle.cv_histories.specs.Honest.{IsHonest}
+use Rattle.cv_histories.specs.Legal.{NeverFalls}
 use Rattle.cv_histories.specs.Rows.{sites_in}
-use Rattle.cv_laws.proofs.Flights.{kept_if}
-use Rattle.cv_machine.specs.Held.{Held, state_of}
+use Rattle.cv_histories.specs.Runs.{Run, run_at}
+use Rattle.cv_histories.specs.Seen.{is_live, observed_of}
+use Rattle.cv_laws.specs.Statements.{FlownIsHonest, FlownIsPlain, RowsAreJoined}
+use Rattle.cv_machine.specs.Held.{Held}
 use Rattle.cv_observe.specs.StandsFor.{StandsFor, SummaryOf}
 use Rattle.cv_runs.specs.Learned.{observations}
-use Rattle.cv_runs.specs.PatchedRun.{PatchedStep, Table, entries_in, only_if, patched_run, steps_of}
+use Rattle.cv_runs.specs.PatchedRun.{PatchedStep, Table, steps_of}
 use Rattle.cv_runs.specs.PlainRun.{Step, end_of, plain_run, state_left}
-use Rattle.cv_runs.specs.State.{State, start_state}
+use Rattle.cv_runs.specs.State.{start_state}
+
+-- what is known of the entry of a run that has ended
+pub record IsEntryOf (plan : PlanOf) (summary : SummaryOf) (flying : Flying) (e : Entry) : Type 0 where
+  pub entry : entry_of_going plan (going_of flying) ≡ Some e
+  pub honest : IsHonestUnder plan (adopted_in (going_of flying)) e
+  pub rows : rows_of (adopted_in (going_of flying)) ≡ e.adopted
+  pub rises : NeverFalls e.adopted
+  pub going : going_of flying ≡ Some (record { run = e.run; worker = e.worker; turns = e.turns; adopted = adopted_in (going_of flying) })
+  pub observed : is_live e.mode ≡ false → StandsFor summary (observed_of plan (run_at plan e.run))
+  pub turns : e.turns ≤ plan.budget
+  pub worker : e.worker < plan.workers
+
+-- entries with the same parts are the same
+same_entry : (a b : Entry) → a.run ≡ b.run → a.worker ≡ b.worker → a.mode ≡ b.mode → a.adopted ≡ b.adopted → a.end ≡ b.end → a.turns ≡ b.turns → a.sites ≡ b.sites → a.output ≡ b.output → a.tally ≡ b.tally → a.fired ≡ b.fired → a ≡ b
+same_entry a b run worker mode adopted end turns sites output tally fired =
+    ap (λ n. record a { run = n }) run
+    ∙ ap (λ n. record a { run = b.run; worker = n }) worker
+    ∙ ap (λ m. record a { run = b.run; worker = b.worker; mode = m }) mode
+    ∙ ap (λ l. record a { run = b.run; worker = b.worker; mode = b.mode; adopted = l }) adopted
+    ∙ ap (λ e. record a { run = b.run; worker = b.worker; mode = b.mode; adopted = b.adopted; end = e }) end
+    ∙ ap (λ n. record a { run = b.run; worker = b.worker; mode = b.mode; adopted = b.adopted; end = b.end; turns = n }) turns
+    ∙ ap (λ l. record b { sites = l; output = a.output; tally = a.tally; fired = a.fired }) sites
+    ∙ ap (λ l. record b { output = l; tally = a.tally; fired = a.fired }) output
+    ∙ ap (λ l. record b { tally = l; fired = a.fired }) tally
+    ∙ ap (λ l. record b { fired = l }) fired
+
+-- ---- a started run and its end
+
+abbrev IsPair : Started → Started → End → Type 0
+IsPair s g end = (s ≡ g) × (s.end ≡ Some end)
+
+pair_by : (s g : Started) (end : End) (o : Option End) → s.end ≡ o → option_map {U = Started × End} (λ (e : End). (s, e)) o ≡ Some (g, end) → IsPair s g end
+pair_by s g end None at is = cc
+pair_by s g end (Some e) at is =
+    let same = same_Some {A = Started × End} (s, e) (g, end) is in
+    (ap (λ (x : Started × End). x.0) same, at ∙ ap (λ (x : Started × End). Some x.1) same)
+
+pair : (s g : Started) (end : End) → with_end s ≡ Some (g, end) → IsPair s g end
+pair s g end is = pair_by s g end s.end refl is
+
+module _ (honest_law : FlownIsHonest) (plan : PlanOf) (m : Held) (summary : SummaryOf) (patched : Option Patched) (spans : List Span) (g : Started) (end : End) (is : g.end ≡ Some end) (r : IsStarted plan m summary patched spans g) where
+  ended : EndedSo plan m r.flight end
+  ended = subst (StandsBy plan m r.flight) is r.stands
+
+  honest_flight : (versions : List Table) → HaveTables versions spans → IsHonest plan versions (flight_entry plan g.worker r.flight)
+  honest_flight versions have =
+      let over : has_ended plan (flown plan (adoptions_of spans) (begun plan g.run r.run) g.turns) ≡ true = ap (has_ended plan) r.is ∙ ended.over in
+      subst (λ (f : Flight). IsHonest plan versions (flight_entry plan g.worker f)) r.is
+      (honest_law plan versions (adoptions_of spans) g.run r.run g.turns g.worker r.of_plan (adoptions_are versions spans have) over)
+
+  count : length (steps_of (done_in r.flight)) ≡ g.turns
+  count = length-map (done_in r.flight) _ ∙ length-reverse r.flight.steps ∙ sym r.turns
+
+  -- its entry, where the parts that it tells are those of the flight's
+  entry_with : (e : Entry) → flight_entry plan g.worker r.flight ≡ e → entry_of_going plan (Some (going_with g spans)) ≡ Some e
+  entry_with e same = ap (option_map (flight_entry plan g.worker)) (flight_is plan m summary patched spans g r) ∙ ap Some same
+
+  within : g.turns ≤ plan.budget
+  within = let few = r.leaves.within in omega (arith, r.turns)
 
 -- ---- a learn run
 
-module _ (plan : PlanOf) (m : Held) (summary : SummaryOf) (g : Started) (end : End) (is : g.end ≡ Some end) (r : IsStarted plan m summary g) where
-  abbrev start : State
-  start = start_state plan.image r.run.input
+module _ (honest_law : FlownIsHonest) (plain_law : FlownIsPlain) (plan : PlanOf) (m : Held) (summary : SummaryOf) (g : Started) (end : End) (is : g.end ≡ Some end) (r : IsStarted plan m summary None [] g) where
+  abbrev plain : List Step
+  plain = plain_run plan.image r.run.input plan.budget
 
-  over : IsOver plan.image start plan.budget r.done (state_of m) end
-  over = rw is at r.stands
+  learn_over : has_ended plan (flown plan [] (begun plan g.run r.run) g.turns) ≡ true
+  learn_over = ap (has_ended plan) r.is ∙ (ended honest_law plan m summary None [] g end is r).over
 
-  learn_tells : Tells plan r.run.input (plain_run plan.image r.run.input plan.budget) (plain_entry g end m)
-  learn_tells = record {
-    end = sym (ap end_of over.whole ∙ over.ends);
-    turns = r.turns ∙ sym (ap length over.whole);
-    output = sym (ap (λ (l : List Step). (state_left start l).output) over.whole ∙ ap (λ (s : State). s.output) over.leaves);
-    sites = sym (ap sites_in over.whole ∙ over.sites);
-  }
+  learn_mode : r.run.mode ≡ Learn
+  learn_mode = ap (λ (run : Run). run.mode) (sym r.run_is) ∙ r.keeps.0
 
-  learn_honest : (versions : List Table) → IsHonest plan versions (plain_entry g end m)
-  learn_honest versions = record {
-    run = r.run;
-    of_plan = r.of_plan;
-    mode = sym r.learns;
-    as_it_ran = record { adopted = refl; tells = learn_tells; tally = refl; fired = refl };
+  learn_steps_are : steps_of (done_in r.flight) ≡ plain
+  learn_steps_are = ap (λ (f : Flight). steps_of (done_in f)) (sym r.is) ∙ (plain_law plan g.run g.worker r.run g.turns learn_mode learn_over).0
+
+  learn_entry_is : flight_entry plan g.worker r.flight ≡ ended_entry g end m plain_told
+  learn_entry_is =
+      let e = ended honest_law plan m summary None [] g end is r in
+      let law = (plain_law plan g.run g.worker r.run g.turns learn_mode learn_over).1 in
+      ap (flight_entry plan g.worker) (sym r.is)
+      ∙ law
+      ∙ same_entry _ (ended_entry g end m plain_told) refl refl refl refl
+      (ap end_of (sym learn_steps_are) ∙ e.ends)
+      (ap length (sym learn_steps_are) ∙ count honest_law plan m summary None [] g end is r)
+      (ap sites_in (sym learn_steps_are) ∙ e.sites)
+      (ap (λ (run : Run). (state_left (start_state plan.image run.input) plain).output) (sym r.run_is) ∙ ap (λ (steps : List Step). (state_left (start_state plan.image r.flight.run.input) steps).output) (sym learn_steps_are) ∙ e.output)
+      refl refl
+
+  learn_observed : StandsFor summary (observed_of plan (run_at plan g.run))
+  learn_observed = rw r.of_plan (subst (StandsFor summary) (ap observations learn_steps_are) r.keeps.1)
+
+  learn_known : IsEntryOf plan summary (Learning g) (ended_entry g end m plain_told)
+  learn_known = record {
+    entry = entry_with honest_law plan m summary None [] g end is r (ended_entry g end m plain_told) learn_entry_is;
+    honest = λ versions have. subst (IsHonest plan versions) learn_entry_is (honest_flight honest_law plan m summary None [] g end is r versions tt);
+    rows = refl;
+    rises = tt;
+    going = refl;
+    observed = λ learns. learn_observed;
+    turns = within honest_law plan m summary None [] g end is r;
+    worker = r.worker;
   }
 
 -- ---- a live run
 
-module _ (plan : PlanOf) (m : Held) (summary : SummaryOf) (g : Started) (p : Patched) (end : End) (is : g.end ≡ Some end) (r : IsLiveStarted plan m summary g p) where
-  abbrev begin : State
-  begin = start_state plan.image r.run.input
+module _ (honest_law : FlownIsHonest) (rows_law : RowsAreJoined) (plan : PlanOf) (m : Held) (summary : SummaryOf) (g : Started) (p : Patched) (end : End) (is : g.end ≡ Some end) (r : IsStarted plan m summary (Some p) p.spans.items g) where
+  keeps : Keeps plan r.flight p (Some end)
+  keeps = subst (Keeps plan r.flight p) is r.keeps.0
 
-  live_over : LiveOver plan.image begin plan.budget r.done (state_of m) p.spans.items end
-  live_over = rw is at r.stands
+  rows_are : reverse (joined r.flight.versions) ≡ rows_of p.spans.items
+  rows_are =
+      ap (λ (vs : List ℕ). reverse (joined vs)) (sym (ap (λ (vs : List ℕ). reverse vs) keeps.versions ∙ reverse-reverse r.flight.versions))
+      ∙ rows_law (rows_of p.spans.items) keeps.kept.joined
 
-  live_ran : patched_run plan.image r.run.input plan.budget (tables_of p.spans.items) ≡ Some r.done
-  live_ran =
-      ap (only_if (λ (steps : List PatchedStep). entries_in steps == length (tables_of p.spans.items))) live_over.whole
-      ∙ kept_if (entries_in r.done) (length (tables_of p.spans.items)) r.done live_over.all
+  live_entry_is : flight_entry plan g.worker r.flight ≡ ended_entry g end m (live_told (done_in r.flight) p)
+  live_entry_is =
+      let e = ended honest_law plan m summary (Some p) p.spans.items g end is r in
+      same_entry _ (ended_entry g end m (live_told (done_in r.flight) p)) r.number_is refl keeps.lives rows_are e.ends (count honest_law plan m summary (Some p) p.spans.items g end is r) e.sites e.output refl refl
 
-  live_tells : Tells plan r.run.input (steps_of r.done) (live_entry_of r.done p (plain_entry g end m))
-  live_tells = record {
-    end = sym live_over.ends;
-    turns = r.turns ∙ sym (length-map r.done (λ (step : PatchedStep). record { before = step.before; outcome = step.outcome }));
-    output = sym live_over.leaves;
-    sites = sym live_over.sites;
-  }
-
-  live_honest : (versions : List Table) → HaveTables versions p.spans.items → IsHonest plan versions (live_entry_of r.done p (plain_entry g end m))
-  live_honest versions have = record {
-    run = r.run;
-    of_plan = r.of_plan;
-    mode = sym r.lives;
-    as_it_ran = record {
-      tables = tables_of p.spans.items;
-      steps = r.done;
-      joined = r.kept.joined;
-      adopted = are_tables versions p.spans.items have;
-      ran = live_ran;
-      tells = live_tells;
-      tally = refl;
-      fired = refl;
-    };
+  live_known : IsEntryOf plan summary (Living g p) (ended_entry g end m (live_told (done_in r.flight) p))
+  live_known = record {
+    entry = entry_with honest_law plan m summary (Some p) p.spans.items g end is r _ live_entry_is;
+    honest = λ versions have. subst (IsHonest plan versions) live_entry_is (honest_flight honest_law plan m summary (Some p) p.spans.items g end is r versions have);
+    rows = refl;
+    rises = keeps.kept.rises;
+    going = refl;
+    observed = λ learns. cc;
+    turns = within honest_law plan m summary (Some p) p.spans.items g end is r;
+    worker = r.worker;
   }
 
 -- ---- either
 
-pub honest : (plan : PlanOf) (m : Held) (summary : SummaryOf) (patched : Option Patched) (g : Started) (end : End) (e : Entry) → g.end ≡ Some end → IsStartedIn plan m summary patched g → IsTold patched (plain_entry g end m) e → IsHonestUnder plan (spans_of patched) e
-honest plan m summary None g end e is r told = λ versions have. rw told (learn_honest plan m summary g end is r versions)
-honest plan m summary (Some p) g end e is r told = λ versions have. rw (told r.done r.kept) (live_honest plan m summary g p end is r versions have)
+-- the entry that is built is that of the run
+pub known : FlownIsHonest → FlownIsPlain → RowsAreJoined → (plan : PlanOf) (m : Held) (summary : SummaryOf) (flying : Flying) (g : Started) (end : End) (t : Account) → Stands plan m summary flying → ending_of flying ≡ Some (g, end) → IsTold flying t → IsEntryOf plan summary flying (ended_entry g end m t)
+known honest_law plain_law rows_law plan m summary Nothing g end t stands ends told = cc
+known honest_law plain_law rows_law plan m summary (Learning s) g end t stands ends told =
+    let parts = pair s g end ends in
+    rw (told, ← parts.0) (learn_known honest_law plain_law plan m summary s end parts.1 stands)
+known honest_law plain_law rows_law plan m summary (Living s p) g end t stands ends told =
+    let parts = pair s g end ends in
+    let keeps_s = subst (Keeps plan stands.flight p) parts.1 stands.keeps.0 in
+    rw (told (done_in stands.flight) keeps_s.kept, ← parts.0) (live_known honest_law rows_law plan m summary s p end parts.1 stands)
 
-pub same_worker : (plan : PlanOf) (m : Held) (summary : SummaryOf) (patched : Option Patched) (g : Started) (before e : Entry) → IsStartedIn plan m summary patched g → IsTold patched before e → e.worker ≡ before.worker
-same_worker plan m summary None g before e r told = ap (λ (x : Entry). x.worker) told
-same_worker plan m summary (Some p) g before e r told = ap (λ (x : Entry). x.worker) (told r.done r.kept)
+-- what was seen so far in it
+seen_with : (summary : SummaryOf) (f : Flight) (mode : Mode) → f.run.mode ≡ mode → StandsFor summary (elim (is_live mode) [ true ↦ [] | false ↦ observations (steps_of (done_in f)) ]) → StandsFor summary (seen_in (Some f))
+seen_with summary f mode is seen =
+    subst (λ (mode : Mode). StandsFor summary (elim (is_live mode) [ true ↦ [] | false ↦ observations (steps_of (done_in f)) ])) (sym is) seen
 
-pub same_turns : (plan : PlanOf) (m : Held) (summary : SummaryOf) (patched : Option Patched) (g : Started) (before e : Entry) → IsStartedIn plan m summary patched g → IsTold patched before e → e.turns ≡ before.turns
-same_turns plan m summary None g before e r told = ap (λ (x : Entry). x.turns) told
-same_turns plan m summary (Some p) g before e r told = ap (λ (x : Entry). x.turns) (told r.done r.kept)
-
-pub worker_of : (plan : PlanOf) (m : Held) (summary : SummaryOf) (patched : Option Patched) (g : Started) → IsStartedIn plan m summary patched g → g.worker < plan.workers
-worker_of plan m summary None g r = r.worker
-worker_of plan m summary (Some p) g r = r.worker
-
-all_taken : (n : ℕ) (steps : List Step) → n ≡ length steps → take n steps ≡ steps
-all_taken n steps is = let all : length steps ≤ n = omega arith in take_all n steps all
-
--- what was seen before the turns of a learn run is what the summary stands for
-pub seen_all : (plan : PlanOf) (m : Held) (summary : SummaryOf) (patched : Option Patched) (g : Started) (end : End) → g.end ≡ Some end → IsStartedIn plan m summary patched g → StandsFor summary (seen_so_far plan (going_of (Some g) patched))
-seen_all plan m summary None g end is r =
-    let going : Going = record { run = g.run; worker = g.worker; turns = g.turns; adopted = [] } in
-    let whole = (over plan m summary g end is r).whole in
-    let all = ap (λ (l : List Step). take g.turns l) whole ∙ all_taken g.turns r.done r.turns in
-    r.seen ∙ sym (ap (seen_of plan going) r.of_plan ∙ ap (λ (mode : Mode). seen_in_mode mode plan going r.run.input) r.learns ∙ ap observations all)
-seen_all plan m summary (Some p) g end is r =
-    let going : Going = record { run = g.run; worker = g.worker; turns = g.turns; adopted = p.spans.items } in
-    r.seen ∙ sym (ap (seen_of plan going) r.of_plan ∙ ap (λ (mode : Mode). seen_in_mode mode plan going r.run.input) r.lives)
+pub seen_now : (plan : PlanOf) (m : Held) (summary : SummaryOf) (flying : Flying) (g : Started) (end : End) → Stands plan m summary flying → ending_of flying ≡ Some (g, end) → StandsFor summary (seen_so_far plan (going_of flying))
+seen_now plan m summary Nothing g end stands ends = cc
+seen_now plan m summary (Learning s) g end stands ends =
+    rw (flight_is plan m summary None [] s stands) (seen_with summary stands.flight Learn stands.keeps.0 stands.keeps.1)
+seen_now plan m summary (Living s p) g end stands ends =
+    rw (flight_is plan m summary (Some p) p.spans.items s stands) (seen_with summary stands.flight Live stands.keeps.0.lives stands.keeps.1)

@@ -1,119 +1,142 @@
--- A run's steps, one turn after another.
-use Rattle.std.proofs.Common.{◌≡◌, ◌<◌, ◌+◌, ◌-◌, ℕ, suc, zero, Bool, true, false, List, [], ◌∷◌, ◌++◌, length, Option, Some, None, refl, sym, ap, ◌∙◌, append_assoc, arith, length-append}
-use Rattle.std.specs.Prelude.{◌==◌, if◌then◌else◌}
+-- A run in flight through one more turn: what its steps leave, and how it ends.
+use Rattle.std.proofs.Common.{◌≡◌, ◌<◌, ◌≤◌, ◌+◌, ◌-◌, ℕ, suc, Bool, true, false, List, [], ◌∷◌, ◌++◌, length, Option, Some, None, refl, sym, ap, ◌∙◌, append_assoc, arith}
+use Rattle.std.specs.Prelude.{◌==◌, ◌||◌, if◌then◌else◌}
+use Rattle.std.proofs.lemmas.Bool.{eq-eqb}
 use Rattle.std.proofs.lemmas.Bool.Decides.{nat_tests}
-use Rattle.std.proofs.Math.Nat.{sub-zero}
+use Rattle.std.proofs.lemmas.List.{map-append, reverse-append}
 use Rattle.cv_base.specs.declared.ends.End.{End}
 use Rattle.cv_base.specs.declared.ends.End.TheVariants.{Failure, Budget}
-use Rattle.cv_base.specs.Picture.{Picture}
-use Rattle.cv_exec.specs.RunEnds.{end_with, end_sites}
-use Rattle.cv_exec.specs.StandsAt.{GoesOn, IsOver, StandsAt}
-use Rattle.cv_histories.specs.Rows.{sites_of, sites_at_end, last_sites}
-use Rattle.cv_laws.proofs.PlainSteps.{no_turn, turn_first}
+use Rattle.cv_base.specs.PlanOf.{PlanOf}
+use Rattle.cv_exec.specs.ArenaStands.{EndedSo, GoesOn, Leaves, StandsBy}
+use Rattle.cv_exec.specs.RunEnds.{end_sites, end_with}
+use Rattle.cv_histories.specs.Flight.{Flight, done_in, has_ended, turned_by}
+use Rattle.cv_histories.specs.Rows.{last_sites, sites_at_end, sites_in, sites_of}
 use Rattle.cv_machine.specs.Answers.{left_by}
-use Rattle.cv_runs.specs.PlainRun.{Step, steps_from, stepped, end_of, state_left}
-use Rattle.cv_runs.specs.PlainTurn.{turn_of}
-use Rattle.cv_runs.specs.State.{State, Outcome, Next, Ended}
+use Rattle.cv_machine.specs.Held.{Held, state_of}
+use Rattle.cv_runs.specs.PatchedRun.{PatchedStep, steps_of}
+use Rattle.cv_runs.specs.PlainRun.{Step, end_after, end_of, state_after, state_left}
+use Rattle.cv_runs.specs.State.{State, Outcome, Next, Ended, start_state}
 
-pub last_sites-seam : (done : List Step) (step : Step) → last_sites (done ++ step ∷ []) ≡ sites_of step.before
+-- ---- one step behind others
+
+abbrev plain_of : PatchedStep → Step
+plain_of step = record { before = step.before; outcome = step.outcome }
+
+pub done_more : (f : Flight) (step : PatchedStep) (o : Outcome) → done_in (turned_by f step o) ≡ done_in f ++ step ∷ []
+done_more f step (Next next transfer) = reverse-append (step ∷ []) f.steps
+done_more f step (Ended end) = reverse-append (step ∷ []) f.steps
+
+pub steps_more : (f : Flight) (step : PatchedStep) (o : Outcome) → steps_of (done_in (turned_by f step o)) ≡ steps_of (done_in f) ++ plain_of step ∷ []
+steps_more f step o = ap steps_of (done_more f step o) ∙ map-append plain_of (done_in f) (step ∷ [])
+
+state_left-append : (start : State) (done rest : List Step) → state_left start (done ++ rest) ≡ state_left (state_left start done) rest
+state_left-append start [] rest = refl
+state_left-append start (step ∷ done) rest = state_left-append (state_after start step.outcome) done rest
+
+last_sites-seam : (done : List Step) (step : Step) → last_sites (done ++ step ∷ []) ≡ sites_of step.before
 last_sites-seam [] step = refl
 last_sites-seam (a ∷ []) step = refl
 last_sites-seam (a ∷ b ∷ done) step = last_sites-seam (b ∷ done) step
 
-pub sites_by : (end : End) (done : List Step) (step : Step) → sites_at_end end (done ++ step ∷ []) ≡ end_sites end step.before.core
+sites_by : (end : End) (done : List Step) (step : Step) → sites_at_end end (done ++ step ∷ []) ≡ end_sites end step.before.core
 sites_by (Failure id detail) done step = last_sites-seam done step
 sites_by _ done step = refl
 
-module _ (image : Picture) (start : State) (budget : ℕ) (done : List Step) (s : State) (g : GoesOn image start budget done s) where
-  rest : (o : Outcome) → turn_of image s ≡ o → steps_from image (budget - length done) s ≡ stepped s o (steps_from image (budget - (length done + 1)))
-  rest o is =
-      let below = g.below in
-      let fewer : budget - length done ≡ suc (budget - (length done + 1)) = omega arith in
-      rw fewer (turn_first image (budget - (length done + 1)) s o is)
+-- ---- before the first turn
 
-  -- a turn that ends the run
-  over_by : (end : End) → turn_of image s ≡ Ended end → IsOver image start budget (done ++ record { before = s; outcome = Ended end } ∷ []) s end
-  over_by end is =
-      let step : Step = record { before = s; outcome = Ended end } in
-      let steps : steps_from image (budget - length done) s ≡ step ∷ [] = rest (Ended end) is in
-      let whole : steps_from image budget start ≡ done ++ step ∷ [] = g.parts ∙ ap (λ l. done ++ l) steps in
-      let ends : end_of (done ++ step ∷ []) ≡ end = sym (ap end_of whole) ∙ g.ends ∙ ap end_of steps in
+-- a flight that has not ended has turns left
+not_over : (over last : Bool) → (over || last) ≡ false → (over ≡ false) × (last ≡ false)
+not_over true last is = cc
+not_over false last is = (refl, is)
+
+below_by : (n budget : ℕ) (last : Bool) → (n == budget) ≡ last → last ≡ false → n ≤ budget → n < budget
+below_by n budget true test is within = cc
+below_by n budget false test is within = grind (arith, nat_tests)
+
+pub going : (plan : PlanOf) (f : Flight) → has_ended plan f ≡ false → length f.steps ≤ plan.budget → (f.over ≡ false) × (length f.steps < plan.budget)
+going plan f on within =
+    let parts = not_over f.over (length f.steps == plan.budget) on in
+    (parts.0, below_by (length f.steps) plan.budget (length f.steps == plan.budget) refl parts.1 within)
+
+-- ---- after a turn
+
+module _ (plan : PlanOf) (f : Flight) (step : PatchedStep) (leaves : Leaves plan f) (on : f.over ≡ false) (below : length f.steps < plan.budget) (before : step.before ≡ f.state) where
+  abbrev start : State
+  start = start_state plan.image f.run.input
+
+  state_more : (o : Outcome) → step.outcome ≡ o → state_left start (steps_of (done_in (turned_by f step o))) ≡ state_after f.state o
+  state_more o is =
+      ap (state_left start) (steps_more f step o)
+      ∙ state_left-append start (steps_of (done_in f)) (plain_of step ∷ [])
+      ∙ ap (λ (s : State). state_after s step.outcome) leaves.state
+      ∙ ap (state_after f.state) is
+
+  ends_more : (o : Outcome) → step.outcome ≡ o → (rest : List Step) → end_of (steps_of (done_in (turned_by f step o)) ++ rest) ≡ end_after (end_of rest) o
+  ends_more o is rest =
+      ap (λ (l : List Step). end_of (l ++ rest)) (steps_more f step o)
+      ∙ ap end_of (append_assoc (steps_of (done_in f)) (plain_of step ∷ []) rest)
+      ∙ leaves.ends on (plain_of step ∷ rest)
+      ∙ ap (end_after (end_of rest)) is
+
+  end_is : (o : Outcome) → step.outcome ≡ o → end_of (steps_of (done_in (turned_by f step o))) ≡ end_after Budget o
+  end_is o is = ap end_of (steps_more f step o) ∙ leaves.ends on (plain_of step ∷ []) ∙ ap (end_after Budget) is
+
+  pub leaves_after : (o : Outcome) → step.outcome ≡ o → Leaves plan (turned_by f step o)
+  leaves_after (Next next transfer) is = record {
+    within = below;
+    state = state_more (Next next transfer) is;
+    ends = λ over rest. ends_more (Next next transfer) is rest;
+  }
+  leaves_after (Ended end) is = record {
+    within = below;
+    state = state_more (Ended end) is;
+    ends = λ over rest. absurd cc;
+  }
+
+  -- it ended the run
+  ended_so : (m : Held) (s : State) (end : End) → step.outcome ≡ Ended end → state_of m ≡ s → s.output ≡ f.state.output → end_sites end f.state.core ≡ end_sites end s.core → EndedSo plan m (turned_by f step (Ended end)) end
+  ended_so m s end is state output sites =
+      let ends : end_of (steps_of (done_in (turned_by f step (Ended end)))) ≡ end = end_is (Ended end) is in
       record {
-        whole = whole;
+        over = refl;
         ends = ends;
-        leaves = sym (ap (state_left start) whole) ∙ g.leaves ∙ ap (state_left s) steps;
-        sites = ap (λ e. sites_at_end e (done ++ step ∷ [])) ends ∙ sites_by end done step;
+        output = ap (λ (x : State). x.output) (state_more (Ended end) is) ∙ sym output ∙ ap (λ (x : State). x.output) (sym state);
+        sites =
+            ap (λ (e : End). sites_at_end e (steps_of (done_in (turned_by f step (Ended end))))) ends
+            ∙ ap (sites_at_end end) (steps_more f step (Ended end))
+            ∙ sites_by end (steps_of (done_in f)) (plain_of step)
+            ∙ ap (λ (x : State). end_sites end x.core) before
+            ∙ sites
+            ∙ ap (λ (x : State). end_sites end x.core) (sym state);
       }
 
-  -- the last turn that the budget allows
-  over_budget : (next : State) (transfer : Bool) → turn_of image s ≡ Next next transfer → budget - length done ≡ 1 → IsOver image start budget (done ++ record { before = s; outcome = Next next transfer } ∷ []) next Budget
-  over_budget next transfer is last =
-      let step : Step = record { before = s; outcome = Next next transfer } in
-      let none : budget - (length done + 1) ≡ 0 = omega arith in
-      let steps : steps_from image (budget - length done) s ≡ step ∷ [] =
-      rest (Next next transfer) is ∙ ap (λ k. step ∷ steps_from image k next) none ∙ ap (λ l. step ∷ l) (no_turn image next) in
-      let whole : steps_from image budget start ≡ done ++ step ∷ [] = g.parts ∙ ap (λ l. done ++ l) steps in
-      let ends : end_of (done ++ step ∷ []) ≡ Budget = sym (ap end_of whole) ∙ g.ends ∙ ap end_of steps in
-      record {
-        whole = whole;
-        ends = ends;
-        leaves = sym (ap (state_left start) whole) ∙ g.leaves ∙ ap (state_left s) steps;
-        sites = ap (λ e. sites_at_end e (done ++ step ∷ [])) ends;
-      }
+  module _ (m : Held) (next : State) (transfer : Bool) (is : step.outcome ≡ Next next transfer) (state : state_of m ≡ next) where
+    -- it was the last turn that the budget allows
+    over_budget : suc (length f.steps) ≡ plan.budget → EndedSo plan m (turned_by f step (Next next transfer)) Budget
+    over_budget all =
+        let ends : end_of (steps_of (done_in (turned_by f step (Next next transfer)))) ≡ Budget = end_is (Next next transfer) is in
+        record {
+          over = ap (λ (b : Bool). b || (suc (length f.steps) == plan.budget)) on ∙ eq-eqb (suc (length f.steps)) plan.budget all;
+          ends = ends;
+          output = ap (λ (x : State). x.output) (state_more (Next next transfer) is) ∙ ap (λ (x : State). x.output) (sym state);
+          sites = ap (λ (e : End). sites_at_end e (steps_of (done_in (turned_by f step (Next next transfer))))) ends;
+        }
 
-  -- a turn after which others follow
-  goes_on : (next : State) (transfer : Bool) → turn_of image s ≡ Next next transfer → length done + 1 < budget → GoesOn image start budget (done ++ record { before = s; outcome = Next next transfer } ∷ []) next
-  goes_on next transfer is below =
-      let step : Step = record { before = s; outcome = Next next transfer } in
-      let steps : steps_from image (budget - length done) s ≡ step ∷ steps_from image (budget - (length done + 1)) next = rest (Next next transfer) is in
-      let count : length (done ++ step ∷ []) ≡ length done + 1 = length-append done (step ∷ []) in
-      record {
-        below = rw count below;
-        parts = rw count (g.parts ∙ ap (λ l. done ++ l) steps ∙ sym (append_assoc done (step ∷ []) _));
-        ends = rw count (g.ends ∙ ap end_of steps);
-        leaves = rw count (g.leaves ∙ ap (state_left s) steps);
-      }
+    -- others follow
+    goes_further : (suc (length f.steps) == plan.budget) ≡ false → GoesOn plan m (turned_by f step (Next next transfer))
+    goes_further more = record { on = ap (λ (b : Bool). b || (suc (length f.steps) == plan.budget)) on ∙ more; state = state }
 
-  by_test : (next : State) (transfer : Bool) (end : Option End) (last : Bool) → turn_of image s ≡ Next next transfer → (budget - length done == 1) ≡ last → end ≡ (if last then Some Budget else None) → StandsAt image start budget (done ++ record { before = s; outcome = Next next transfer } ∷ []) next end
-  by_test next transfer end true is test ends =
-      let one : budget - length done ≡ 1 = grind (arith, nat_tests) in
-      rw ends (over_budget next transfer is one)
-  by_test next transfer end false is test ends =
-      let below = g.below in
-      let more : length done + 1 < budget = grind (arith, nat_tests) in
-      rw ends (goes_on next transfer is more)
+    by_test : (left : ℕ) (end : Option End) (last : Bool) → left ≡ plan.budget - length f.steps → (left == 1) ≡ last → end ≡ (if last then Some Budget else None) → StandsBy plan m (turned_by f step (Next next transfer)) end
+    by_test left end true all test ends =
+        let one : left ≡ 1 = grind (arith, nat_tests) in
+        rw ends (over_budget (omega arith))
+    by_test left end false all test ends =
+        let more : (suc (length f.steps) == plan.budget) ≡ false = grind (arith, nat_tests) in
+        rw ends (goes_further more)
 
-  by_outcome : (o : Outcome) (next : State) (end : Option End) → turn_of image s ≡ o → end ≡ end_with (budget - length done) o → next ≡ left_by o s → StandsAt image start budget (done ++ record { before = s; outcome = o } ∷ []) next end
-  by_outcome (Ended e) next end is ends left = rw (ends, left) (over_by e is)
-  by_outcome (Next n transfer) next end is ends left = rw left (by_test n transfer end (budget - length done == 1) is refl ends)
-
-  -- after one more turn
-  pub turned : (next : State) (end : Option End) → end ≡ end_with (budget - length done) (turn_of image s) → next ≡ left_by (turn_of image s) s → StandsAt image start budget (done ++ record { before = s; outcome = turn_of image s } ∷ []) next end
-  turned next end ends left = by_outcome (turn_of image s) next end refl ends left
-
--- before the first turn
-pub first : (image : Picture) (start : State) (budget : ℕ) (s : State) → 0 < budget → s ≡ start → GoesOn image start budget [] s
-first image start budget s some is =
-    rw is record { below = some; parts = rw sub-zero refl; ends = rw sub-zero refl; leaves = rw sub-zero refl }
-
-some_step : (image : Picture) (k : ℕ) (s : State) (o : Outcome) → turn_of image s ≡ o → 0 < length (steps_from image (suc k) s)
-some_step image k s (Next n transfer) is = rw (turn_first image k s (Next n transfer) is) (omega arith)
-some_step image k s (Ended e) is = rw (turn_first image k s (Ended e) is) (omega arith)
-
--- a run that goes on has more steps than those made
-pub more_steps : (image : Picture) (start : State) (budget : ℕ) (done : List Step) (s : State) → GoesOn image start budget done s → length done < length (steps_from image budget start)
-more_steps image start budget done s g =
-    let below = g.below in
-    let fewer : budget - length done ≡ suc (budget - (length done + 1)) = omega arith in
-    let some : 0 < length (steps_from image (budget - length done) s) = rw fewer (some_step image (budget - (length done + 1)) s (turn_of image s) refl) in
-    let count : length (steps_from image budget start) ≡ length (done ++ steps_from image (budget - length done) s) = ap length g.parts in
-    omega (arith, length-append done (steps_from image (budget - length done) s))
-
-steps_within : (image : Picture) (k : ℕ) (s : State) (o : Outcome) → turn_of image s ≡ o → ((n : State) → length (steps_from image k n) < suc k) → length (steps_from image (suc k) s) < suc (suc k)
-steps_within image k s (Next n transfer) is rest = let h : length (steps_from image k n) < suc k = rest n in rw (turn_first image k s (Next n transfer) is) (omega arith)
-steps_within image k s (Ended e) is rest = rw (turn_first image k s (Ended e) is) (omega arith)
-
--- no run has more steps than its budget
-pub few_steps : (image : Picture) (budget : ℕ) (s : State) → length (steps_from image budget s) < suc budget
-few_steps image zero s = rw (no_turn image s) (omega arith)
-few_steps image (suc k) s = steps_within image k s (turn_of image s) refl (few_steps image k)
+  -- the machine stands in the state behind the turn, or where the turn ended the run in the state s
+  -- behind its patches
+  pub stands_after : (m : Held) (s : State) (left : ℕ) (end : Option End) (o : Outcome) → step.outcome ≡ o → state_of m ≡ left_by o s → s.output ≡ f.state.output → ((e : End) → o ≡ Ended e → end_sites e f.state.core ≡ end_sites e s.core)
+      → left ≡ plan.budget - length f.steps → end ≡ end_with left o → StandsBy plan m (turned_by f step o) end
+  stands_after m s left end (Next next transfer) is state output sites all ends = by_test m next transfer is state left end (left == 1) all refl ends
+  stands_after m s left end (Ended e) is state output sites all ends = rw ends (ended_so m s e is state output (sites e refl))

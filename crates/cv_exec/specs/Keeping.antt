@@ -16,7 +16,7 @@ use Rattle.cv_patch.specs.Counts.{CountsChecks, CountsFirings, FiredGoesOn, Tall
 use Rattle.cv_runs.specs.Apply.{Left, apply}
 use Rattle.cv_runs.specs.BlockEntries.{is_entry, since_next}
 use Rattle.cv_runs.specs.PatchedRun.{PatchedStep, PatchedTurn, Table, notes_of, patched_turn, with_core}
-use Rattle.cv_runs.specs.State.{State}
+use Rattle.cv_runs.specs.State.{State, Outcome, Next, Ended}
 
 -- where the words of an image's text lie
 abbrev pub range_of : Picture → Range
@@ -62,11 +62,6 @@ pub record IsFresh (text : Range) (p : Patched) : Type 0 where
   pub prepared : p.prepared ≡ false
   pub tally : p.tally ≡ []
   pub fired : p.fired ≡ []
-
--- what a run of this mode keeps beside the machine at its start
-abbrev pub BeginsIn : Range → Option Mode → Option Patched → Type 0
-BeginsIn text (Some Live) patched = IsSomeAnd patched (IsFresh text)
-BeginsIn text _ patched = patched ≡ None
 
 -- each patch of the last table has its row
 pub record IsReady (p : Patched) : Type 0 where
@@ -141,6 +136,10 @@ pub record IsNoted (turn : PatchedTurn) (old new : Patched) : Type 0 where
   pub prepared : new.prepared ≡ old.prepared
   pub tally : TallyGoesOn (last_table old.spans.items) old.tally new.tally (checks_in turn.notes)
   pub fired : FiredGoesOn (last_table old.spans.items) old.fired new.fired (firings_in turn.notes)
+
+abbrev pub is_transfer_in : Outcome → Bool
+is_transfer_in (Next s transfer) = transfer
+is_transfer_in (Ended end) = false
 
 -- whether the next turn is a block entry, after one that was a transfer or not
 pub record EntersAfter (transfer : Bool) (old new : Patched) : Type 0 where

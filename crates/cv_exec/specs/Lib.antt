@@ -1,11 +1,9 @@
 pub mod ArenaOf
+pub mod ArenaStands
 pub mod Ending
 pub mod Keeping
 pub mod LearnRun
 pub mod LiveRun
-pub mod LiveStands
 pub mod PlannedRun
 pub mod RecordOf
 pub mod RunEnds
-pub mod StandsAt
-pub mod Unfired

@@ -2,57 +2,50 @@ ghost use Rattle.std.specs.List.{AllByRecursion};
 ghost use Rattle.std.specs.Prelude.{◌≡◌, ◌≤◌, ◌<◌, ◌++◌, [], ℕ, List, Some, None, false, true, option_map, slice_get, IfOk, OnOk, OnErr, IsSome};
 ghost use Rattle.cv_base.specs.declared.plan.Mode.TheVariants as mode;
 ghost use Rattle.cv_blocks.specs.TextMap.{text_only};
-ghost use Rattle.cv_exec.specs.ArenaOf.{adopted_in, entered, entry_of_going, has_ended, one_more, seen_so_far, wants_entry};
+ghost use Rattle.cv_exec.specs.ArenaOf.{adopted_in, entered, entry_of_going, flight_in, has_ended, one_more, seen_so_far, wants_entry};
+ghost use Rattle.cv_exec.specs.ArenaStands.{turns_in, with_adopted};
+ghost use Rattle.cv_exec.specs.Keeping.{IsNotBelow, last_span, table_if};
 ghost use Rattle.cv_exec.specs.LearnRun.{IsLearnRun, learn_steps, entry_by};
 ghost use Rattle.cv_exec.specs.LiveRun.{HaveTables, IsLiveRun, MayAdopt, Span, rows_of};
-ghost use Rattle.cv_exec.specs.Keeping.{IsNotBelow, last_span, table_if};
-ghost use Rattle.cv_exec.specs.StandsAt.{turns_in, with_adopted};
-ghost use Rattle.cv_exec.specs.Unfired.{SaysPlain};
+ghost use Rattle.cv_exec.specs.RecordOf.{IsHonestUnder};
+ghost use Rattle.cv_histories.specs.Seen.{is_live, observed_of};
+ghost use Rattle.cv_histories.specs.Unfired.{SaysPlain};
+ghost use Rattle.cv_histories.specs.Flight as flight;
+ghost use Rattle.cv_histories.specs.Flight.{Flight, begun, turned};
 ghost use Rattle.cv_histories.specs.Honest.{IsHonest};
 ghost use Rattle.cv_histories.specs.Legal.{NeverFalls};
 ghost use Rattle.cv_histories.specs.Rows.{written};
-ghost use Rattle.cv_histories.specs.Runs.{run_at};
+ghost use Rattle.cv_histories.specs.Runs.{Run, run_at};
 ghost use Rattle.cv_observe.specs.StandsFor.{StandsFor};
 ghost use Rattle.cv_patch.specs.Adopting.{IsGrown};
 ghost use Rattle.cv_runs.specs.Learned.{observations};
 
 use crate::ending::{entry_of, spans_in, told};
-use crate::patched::{Patched, patched_for};
+use crate::flying::{Flying, Started, flying_for};
 use crate::plans::{budget_of, input_of, mode_of};
 use crate::turns::{see, turn};
-use crate::{Record, SharedPlan, unfired_is_plain};
-use cv_base::{End, Entry, Items, Mode, NoMemory, PatchTable, Plan, TextRange};
+use crate::{Record, SharedPlan};
+use cv_base::{Entry, NoMemory, PatchTable, Plan, TextRange};
 use cv_blocks::TextMap;
+use cv_laws::{flown_is_honest, flown_is_of, flown_is_plain, rows_are_joined, unfired_is_plain};
 use cv_machine::Machine;
 use cv_observe::Summary;
 use cv_patch::{Adopter, Watcher};
 use std::alloc::Global;
 use std::marker::Model;
+use std::mem;
 use std::sync::Arc;
 
-/// A run that was started and not finished.
-#[derive(Clone, Copy, Debug)]
-pub(crate) struct Started {
-    pub(crate) run: u32,
-    pub(crate) worker: u32,
-    /// The turns so far.
-    pub(crate) turns: u32,
-    /// How the run has ended, once it has.
-    end: Option<End>,
-}
-
 /// Where the runs of one plan are run, one after another, each turn by turn. Contracts see the
-/// plan, the run that is going on with its turns so far, and the summary of what was seen before
-/// them.
+/// plan, the run that is going on with its turns so far and what it adopted, which make the run in
+/// flight, and the summary of what was seen before its turns.
 #[derive(Drop)]
 pub struct Arena {
     plan: SharedPlan,
     machine: Machine,
     summary: Summary,
-    started: Option<Started>,
     text: TextRange,
-    /// What a live run keeps beside the machine; `None` in a learn run.
-    patched: Option<Patched>,
+    flying: Flying,
 }
 
 impl Model for Arena {
@@ -60,11 +53,11 @@ impl Model for Arena {
 
     ghost Value = { ArenaOf };
 
-    ghost use Rattle.cv_exec.specs.StandsAt.{IsArena, going_of};
+    ghost use Rattle.cv_exec.specs.ArenaStands.{IsArena, going_of};
 
-    ghost view = { λ a. record { plan = a.plan; going = going_of a.started a.patched; summary = a.summary } };
+    ghost view = { λ a. record { plan = a.plan; going = going_of a.flying; summary = a.summary } };
 
-    ghost invariant = { λ a. IsArena a.plan a.machine a.summary a.text a.patched a.started };
+    ghost invariant = { λ a. IsArena a.plan a.machine a.summary a.text a.flying };
 }
 
 impl Arena {
@@ -82,9 +75,8 @@ impl Arena {
             plan,
             machine,
             summary,
-            started: None,
             text,
-            patched: None,
+            flying: Flying::Nothing,
         })
     }
 
@@ -101,6 +93,7 @@ impl Arena {
         requires run { IsSome (run_at plan.now run) }
         requires worker { worker < plan.now.workers }
         ensures going { OnOk result (self.new.going ≡ Some (record { run = run; worker = worker; turns = 0; adopted = [] })) }
+        ensures flight { OnOk result (flight_in self.new.plan self.new.going ≡ option_map (λ (r : Run). begun self.old.plan run r) (run_at self.old.plan run)) }
         ensures begins { OnOk result (has_ended self.new ≡ false) }
         ensures plan { self.new.plan ≡ self.old.plan }
         ensures err { OnErr result (self.new ≡ self.old) }
@@ -109,13 +102,7 @@ impl Arena {
         let input = input_of(plan, run);
         self.machine.begin(alloc, input)?;
         self.summary.clear();
-        self.patched = patched_for(alloc, mode_of(plan, run), self.text);
-        self.started = Some(Started {
-            run,
-            worker,
-            turns: 0,
-            end: None,
-        });
+        self.flying = flying_for(alloc, mode_of(plan, run), self.text, run, worker);
         Ok(())
     }
 
@@ -123,10 +110,7 @@ impl Arena {
     pub fn ended(&self) -> bool
         ensures { result ≡ has_ended self.now }
     {
-        match &self.started {
-            Some(started) => started.end.is_some(),
-            None => false,
-        }
+        self.flying.ended()
     }
 
     /// Whether a live run is going on whose next turn is a block entry, for which no version was
@@ -134,10 +118,7 @@ impl Arena {
     pub fn wants_entry(&self) -> bool
         ensures { result ≡ wants_entry self.now }
     {
-        match (&self.started, &self.patched) {
-            (Some(started), Some(patched)) => started.end.is_none() && patched.wants_entry(),
-            _ => false,
-        }
+        self.flying.wants_entry()
     }
 
     /// The block entry that is wanted adopts a version, with its table: a version not below the last
@@ -147,15 +128,16 @@ impl Arena {
         requires wanted { wants_entry self.old ≡ true }
         requires may { MayAdopt version table.value (adopted_in self.old.going) }
         ensures going { OnOk result (self.new.going ≡ entered version table.value self.old.going) }
+        ensures flight { OnOk result (flight_in self.new.plan self.new.going ≡ option_map (flight.entered version table.value) (flight_in self.old.plan self.old.going)) }
         ensures goes_on { OnOk result (has_ended self.new ≡ false) }
         ensures entered { OnOk result (wants_entry self.new ≡ false) }
         ensures plan { self.new.plan ≡ self.old.plan }
         ensures err { OnErr result (self.new ≡ self.old) }
     {
         let _budget = budget_of(self.plan.get());
-        match &mut self.patched {
-            Some(patched) => patched.adopt(version, table),
-            None => unreachable!(),
+        match &mut self.flying {
+            Flying::Living(_, patched) => patched.adopt(version, table),
+            Flying::Nothing | Flying::Learning(_) => unreachable!(),
         }
     }
 
@@ -168,27 +150,24 @@ impl Arena {
         requires goes_on { has_ended self.old ≡ false }
         requires entered { wants_entry self.old ≡ false }
         ensures turned { OnOk result (self.new.going ≡ one_more self.old.going) }
+        ensures flight { OnOk result (flight_in self.new.plan self.new.going ≡ option_map (turned self.old.plan) (flight_in self.old.plan self.old.going)) }
         ensures ended { IfOk result (λ over. over ≡ has_ended self.new) }
         ensures plan { self.new.plan ≡ self.old.plan }
         ensures err { OnErr result (self.new ≡ self.old) }
     {
-        let Some(started) = self.started else {
-            unreachable!()
-        };
-        let left = budget_of(self.plan.get()) - started.turns;
-        let end = match &mut self.patched {
-            Some(patched) => patched.turn(&mut self.machine, left),
-            None => {
+        let budget = budget_of(self.plan.get());
+        match &mut self.flying {
+            Flying::Nothing => unreachable!(),
+            Flying::Learning(started) => {
                 see(&mut self.summary, self.machine.core())?;
-                turn(&mut self.machine, left)
+                let end = turn(&mut self.machine, budget - started.turns);
+                Ok(started.took(end))
             }
-        };
-        self.started = Some(Started {
-            turns: started.turns + 1,
-            end,
-            ..started
-        });
-        Ok(end.is_some())
+            Flying::Living(started, patched) => {
+                let end = patched.turn(&mut self.machine, budget - started.turns);
+                Ok(started.took(end))
+            }
+        }
     }
 
     /// The record of a run that has ended, which is no longer going on then. Where memory is refused
@@ -198,24 +177,42 @@ impl Arena {
         ensures plan { IfOk result (λ r. r.plan ≡ self.old.plan) }
         ensures entry { IfOk result (λ r. entry_of_going self.old.plan self.old.going ≡ Some r.entry) }
         ensures adopted { IfOk result (λ r. r.adopted ≡ adopted_in self.old.going) }
+        ensures going { IfOk result (λ r. self.old.going ≡ Some (record { run = r.entry.run; worker = r.entry.worker; turns = r.entry.turns; adopted = r.adopted })) }
         ensures turns { IfOk result (λ r. r.entry.turns ≤ self.old.plan.budget) }
         ensures worker { IfOk result (λ r. r.entry.worker < self.old.plan.workers) }
         ensures seen { OnOk result (StandsFor self.new.summary (seen_so_far self.old.plan self.old.going)) }
+        ensures observed { IfOk result (λ r. is_live r.entry.mode ≡ false → StandsFor self.new.summary (observed_of self.old.plan (run_at self.old.plan r.entry.run))) }
         ensures left { OnOk result (self.new ≡ record self.old { going = None }) }
         ensures err { OnErr result (self.new ≡ self.old) }
     {
-        let Some(started) = self.started else {
-            unreachable!()
-        };
-        let Some(end) = started.end else {
-            unreachable!()
-        };
         let plan = self.plan.shared()?;
-        let entry = entry_of(alloc, started, end, &self.machine)?;
-        let entry = told(alloc, entry, &self.patched)?;
-        let spans = spans_in(alloc, self.patched.take());
-        self.started = None;
+        let entry = self.entry(alloc)?;
+        let flying = mem::replace(&mut self.flying, Flying::Nothing);
+        let spans = spans_in(alloc, flying);
         Ok(Record { plan, entry, spans })
+    }
+
+    /// The entry of a run that has ended.
+    fn entry(&self, alloc: Global) -> Result<Entry, NoMemory>
+        requires { has_ended self.now ≡ true }
+        ensures entry { IfOk result (λ e. entry_of_going self.now.plan self.now.going ≡ Some e) }
+        ensures honest { IfOk result (λ e. IsHonestUnder self.now.plan (adopted_in self.now.going) e) }
+        ensures rows { IfOk result (λ e. rows_of (adopted_in self.now.going) ≡ e.adopted) }
+        ensures going { IfOk result (λ e. self.now.going ≡ Some (record { run = e.run; worker = e.worker; turns = e.turns; adopted = adopted_in self.now.going })) }
+        ensures rises { IfOk result (λ e. NeverFalls e.adopted) }
+        ensures observed { IfOk result (λ e. is_live e.mode ≡ false → StandsFor self.now.summary (observed_of self.now.plan (run_at self.now.plan e.run))) }
+        ensures turns { IfOk result (λ e. e.turns ≤ self.now.plan.budget) }
+        ensures worker { IfOk result (λ e. e.worker < self.now.plan.workers) }
+        ensures seen { StandsFor self.now.summary (seen_so_far self.now.plan self.now.going) }
+    {
+        flown_is_honest();
+        flown_is_plain();
+        rows_are_joined();
+        let Some((started, end)) = self.flying.ending() else {
+            unreachable!()
+        };
+        let told = told(alloc, &self.flying)?;
+        entry_of(alloc, started, end, &self.machine, told)
     }
 
     /// A learn run of the arena's plan from its start to its end: `start`, `step` until it has
@@ -232,14 +229,18 @@ impl Arena {
         requires worker { worker < plan.now.workers }
         ensures record_plan { IfOk result (λ r. r.plan ≡ plan.now) }
         ensures entry { IfOk result (λ r. entry_by plan.now run worker ≡ Some r.entry) }
+        ensures none { IfOk result (λ r. r.adopted ≡ []) }
         ensures turns { IfOk result (λ r. r.entry.turns ≤ plan.now.budget) }
         ensures seen { OnOk result (StandsFor self.new.summary (observations (learn_steps plan.now run))) }
         ensures left { OnOk result (self.new.going ≡ None) }
         ensures plan { self.new.plan ≡ self.old.plan }
     {
+        flown_is_of();
+        flown_is_plain();
         self.start(alloc, plan, run, worker)?;
         let mut over = false;
         while !over {
+            let _turns = self.turns();
             over = self.step()?;
         }
         self.finish(alloc)
@@ -285,6 +286,7 @@ impl Arena {
             over = self.step()?;
         }
         let record = self.finish(alloc)?;
+        flown_is_of();
         unfired_is_plain();
         let _honest = record.entry();
         Ok(record)
@@ -350,9 +352,9 @@ impl Arena {
     fn last_table(&self, version: u32) -> Result<Option<Arc<PatchTable, Global>>, NoMemory>
         ensures { IfOk result (λ found. option_map (λ t. t.value) found ≡ table_if version (last_span (adopted_in self.now.going))) }
     {
-        match (&self.started, &self.patched) {
-            (Some(_), Some(patched)) => patched.last_table(version),
-            _ => Ok(None),
+        match &self.flying {
+            Flying::Living(_, patched) => patched.last_table(version),
+            Flying::Nothing | Flying::Learning(_) => Ok(None),
         }
     }
 
@@ -361,10 +363,7 @@ impl Arena {
         ensures value { result ≡ turns_in self.now.going }
         ensures below { has_ended self.now ≡ false → IsSome self.now.going → result < self.now.plan.budget }
     {
-        match &self.started {
-            Some(started) => started.turns,
-            None => 0,
-        }
+        self.flying.turns()
     }
 
     /// What was seen before the turns of the learn run that is going on or, after `finish`, of the one
@@ -374,7 +373,7 @@ impl Arena {
         ensures text { result.now.text ≡ text_only self.now.plan.image }
         ensures so_far { IsSome self.now.going → StandsFor result.now (seen_so_far self.now.plan self.now.going) }
     {
-        let _started = &self.started;
+        let _flying = &self.flying;
         &self.summary
     }
 }

@@ -1,59 +1,70 @@
 ghost use Rattle.std.specs.Prelude.{◌≡◌, IfOk};
-ghost use Rattle.cv_exec.specs.Ending.{IsTold, plain_entry};
-ghost use Rattle.cv_exec.specs.StandsAt.{spans_of};
+ghost use Rattle.cv_exec.specs.ArenaStands.{adopted_by};
+ghost use Rattle.cv_exec.specs.Ending.{IsTold, ended_entry};
 
-use crate::arena::Started;
-use crate::patched::{Patched, Span};
+use crate::flying::{Flying, Started};
+use crate::patched::Span;
 use crate::sites::sites_of;
-use cv_base::{End, Entry, Items, Mode, NoMemory};
+use cv_base::{Adopted, End, Entry, FiredRow, Items, Mode, NoMemory, TallyRow};
 use cv_machine::Machine;
 use std::alloc::Global;
 
-/// The entry of a learn run that has ended so in this machine.
+/// What a run tells of itself besides what its machine shows.
+#[derive(Drop)]
+pub(crate) struct Account {
+    pub(crate) mode: Mode,
+    pub(crate) adopted: Items<Adopted>,
+    pub(crate) tally: Items<TallyRow>,
+    pub(crate) fired: Items<FiredRow>,
+}
+
+/// What the run that is going on tells.
+pub(crate) fn told(alloc: Global, flying: &Flying) -> Result<Account, NoMemory>
+    ensures { IfOk result (λ t. IsTold flying.now t) }
+{
+    match flying {
+        Flying::Nothing | Flying::Learning(_) => Ok(Account {
+            mode: Mode::Learn,
+            adopted: Items::make(alloc),
+            tally: Items::make(alloc),
+            fired: Items::make(alloc),
+        }),
+        Flying::Living(_, patched) => patched.tell(alloc),
+    }
+}
+
+/// The entry of a run that has ended so in this machine.
 pub(crate) fn entry_of(
     alloc: Global,
     started: Started,
     end: End,
     machine: &Machine,
+    told: Account,
 ) -> Result<Entry, NoMemory>
-    ensures { IfOk result (λ e. e ≡ plain_entry started end machine.now) }
+    ensures { IfOk result (λ e. e ≡ ended_entry started end machine.now told) }
 {
     let sites = sites_of(alloc, end, machine.core())?;
     let output = Items::from_slice(alloc, machine.output())?;
     Ok(Entry {
         run: started.run,
         worker: started.worker,
-        mode: Mode::Learn,
-        adopted: Items::make(alloc),
+        mode: told.mode,
+        adopted: told.adopted,
         end,
         turns: started.turns,
         sites,
         output,
-        tally: Items::make(alloc),
-        fired: Items::make(alloc),
+        tally: told.tally,
+        fired: told.fired,
     })
 }
 
-/// The entry with what a live run tells besides.
-pub(crate) fn told(
-    alloc: Global,
-    entry: Entry,
-    patched: &Option<Patched>,
-) -> Result<Entry, NoMemory>
-    ensures { IfOk result (λ e. IsTold patched.now entry e) }
-{
-    match patched {
-        Some(patched) => patched.tell(alloc, entry),
-        None => Ok(entry),
-    }
-}
-
 /// What a run has adopted, with the tables.
-pub(crate) fn spans_in(alloc: Global, patched: Option<Patched>) -> Vec<Span>
-    ensures { result.items ≡ spans_of patched }
+pub(crate) fn spans_in(alloc: Global, flying: Flying) -> Vec<Span>
+    ensures { result.items ≡ adopted_by flying }
 {
-    match patched {
-        Some(patched) => patched.into_spans(),
-        None => Vec::new(alloc),
+    match flying {
+        Flying::Living(_, patched) => patched.into_spans(),
+        Flying::Nothing | Flying::Learning(_) => Vec::new(alloc),
     }
 }

@@ -5,7 +5,7 @@
 
 mod arena;
 mod ending;
-mod laws;
+mod flying;
 mod patched;
 mod plans;
 mod record;
@@ -13,7 +13,6 @@ mod sites;
 mod turns;
 
 pub use arena::Arena;
-pub use laws::unfired_is_plain;
 pub use plans::{SharedPlan, mode_of};
 pub use record::Record;
 

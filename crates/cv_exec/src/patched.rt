@@ -1,8 +1,8 @@
 ghost use Rattle.std.specs.Prelude.{◌≡◌, ◌<◌, ◌≤◌, [], ℕ, List, Some, None, true, false, length, option_map, IfOk, OnOk, OnErr};
 ghost use Rattle.cv_base.specs.Picture.{is_point};
-ghost use Rattle.cv_exec.specs.Ending.{live_entry_of};
-ghost use Rattle.cv_exec.specs.LiveRun.{MayAdopt, is_transfer_in, one_entry_more, rows_of, tables_of};
-ghost use Rattle.cv_exec.specs.Keeping.{BeginsIn, EntersAfter, IsEntered, IsFresh, IsKept, IsNoted, IsReady, IsRefused, KeepsCounts, MayTurn, is_of_version, last_span, last_table, left_now, state_then, table_if, turn_now, wants_by};
+ghost use Rattle.cv_exec.specs.Ending.{live_told};
+ghost use Rattle.cv_exec.specs.LiveRun.{MayAdopt, adoptions_of, one_entry_more, rows_of};
+ghost use Rattle.cv_exec.specs.Keeping.{EntersAfter, IsEntered, IsFresh, IsKept, IsNoted, IsReady, IsRefused, KeepsCounts, MayTurn, is_of_version, is_transfer_in, last_span, last_table, left_now, state_then, table_if, turn_now, wants_by};
 ghost use Rattle.cv_exec.specs.RunEnds.{end_with};
 ghost use Rattle.cv_machine.specs.Answers.{answer_of};
 ghost use Rattle.cv_machine.specs.Held.{state_of};
@@ -10,7 +10,8 @@ ghost use Rattle.cv_patch.specs.Applied.{applied};
 ghost use Rattle.cv_patch.specs.Counts.{fired_ready, tally_ready};
 ghost use Rattle.cv_runs.specs.PatchedRun.{PatchedStep};
 
-use cv_base::{Adopted, End, Entry, Items, Mode, NoMemory, PatchTable, TextRange};
+use crate::ending::Account;
+use cv_base::{Adopted, End, Items, Mode, NoMemory, PatchTable, TextRange};
 use cv_blocks::EntryRule;
 use cv_machine::{Machine, Turn};
 use cv_patch::{Applied, Fired, Tally, apply};
@@ -96,7 +97,7 @@ impl Patched {
         table: Arc<PatchTable, Global>,
     ) -> Result<(), NoMemory>
         requires may { MayAdopt version table.value self.old.spans.items }
-        requires room { length (tables_of self.old.spans.items) < 4294967295 }
+        requires room { length (adoptions_of self.old.spans.items) < 4294967295 }
         requires ready { self.old.prepared ≡ true → IsReady self.old }
         ensures ok { OnOk result (IsEntered version table.value self.old self.new) }
         ensures err { OnErr result (IsRefused self.old self.new) }
@@ -185,19 +186,18 @@ impl Patched {
         )
     }
 
-    /// The entry of the run with what it adopted, checked and repaired.
-    pub(crate) fn tell(&self, alloc: Global, entry: Entry) -> Result<Entry, NoMemory>
-        ensures { IfOk result (λ e. (done : List PatchedStep) → IsKept done self.now → e ≡ live_entry_of done self.now entry) }
+    /// What the run tells of itself: what it adopted, checked and repaired.
+    pub(crate) fn tell(&self, alloc: Global) -> Result<Account, NoMemory>
+        ensures { IfOk result (λ t. (done : List PatchedStep) → IsKept done self.now → t ≡ live_told done self.now) }
     {
         let adopted = self.rows(alloc)?;
         let tally = self.tally.rows(alloc)?;
         let fired = self.fired.rows(alloc)?;
-        Ok(Entry {
+        Ok(Account {
             mode: Mode::Live,
             adopted,
             tally,
             fired,
-            ..entry
         })
     }
 
@@ -224,16 +224,6 @@ impl Patched {
     }
 }
 
-/// What a run of this mode keeps beside the machine, before its first turn.
-pub(crate) fn patched_for(alloc: Global, mode: Option<Mode>, text: TextRange) -> Option<Patched>
-    ensures { BeginsIn text mode result }
-{
-    match mode {
-        Some(Mode::Live) => Some(Patched::make(alloc, text)),
-        _ => None,
-    }
-}
-
 /// Whether a version is the one adopted last.
 fn is_last(spans: &[Span], version: u32) -> bool
     ensures { result ≡ is_of_version version (last_span spans.now) }
@@ -250,7 +240,7 @@ fn add_entry(
     version: u32,
     table: Arc<PatchTable, Global>,
 ) -> Result<(), NoMemory>
-    requires { length (tables_of spans.old.items) < 4294967295 }
+    requires { length (adoptions_of spans.old.items) < 4294967295 }
     ensures ok { OnOk result (spans.new.items ≡ one_entry_more version table.value spans.old.items) }
     ensures err { OnErr result (spans.new.items ≡ spans.old.items) }
 {

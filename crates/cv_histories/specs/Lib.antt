@@ -1,6 +1,8 @@
 pub mod Cases
 pub mod Classes
 pub mod DrillPlan
+pub mod EntryOf
+pub mod Flight
 pub mod Honest
 pub mod Installed
 pub mod Legal
@@ -13,5 +15,6 @@ pub mod Scores
 pub mod Seen
 pub mod Serial
 pub mod Texts
+pub mod Unfired
 pub mod Versions
 pub mod World

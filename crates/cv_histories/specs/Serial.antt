@@ -6,42 +6,20 @@ use Rattle.cv_base.specs.declared.plan.Mode.{Mode}
 use Rattle.cv_base.specs.declared.plan.Mode.TheVariants.{Learn, Live}
 use Rattle.cv_base.specs.PlanOf.{PlanOf}
 use Rattle.cv_runs.specs.PatchedRun.{PatchedStep, run_under, entries_in, steps_of, notes_of}
-use Rattle.cv_runs.specs.PlainRun.{Step, plain_run, end_of, state_left}
-use Rattle.cv_runs.specs.State.{start_state}
-use Rattle.cv_histories.specs.Rows.{sites_in, checks_in, firings_in, tally_of, fired_of}
+use Rattle.cv_runs.specs.PlainRun.{Step, plain_run}
+use Rattle.cv_histories.specs.EntryOf.{entry_of}
 use Rattle.cv_histories.specs.Runs.{Run, runs}
 use Rattle.cv_histories.specs.Seen.{Seen}
 use Rattle.cv_histories.specs.Versions.{Ledger, ledger, posted, newest_of}
 
 -- the entry of a learn run by worker 0, of its plain steps
 abbrev pub learn_entry : PlanOf → ℕ → Run → List Step → Entry
-learn_entry plan number run steps = record {
-  run = number;
-  worker = 0;
-  mode = Learn;
-  adopted = [];
-  end = end_of steps;
-  turns = length steps;
-  sites = sites_in steps;
-  output = (state_left (start_state plan.image run.input) steps).output;
-  tally = [];
-  fired = [];
-}
+learn_entry plan number run steps = entry_of plan (record { number = number; worker = 0; mode = Learn; input = run.input }) [] steps []
 
 -- the entry of a live run by worker 0 that adopted one version at all its block entries
 abbrev pub live_entry : PlanOf → ℕ → Run → ℕ → List PatchedStep → Entry
-live_entry plan number run version steps = record {
-  run = number;
-  worker = 0;
-  mode = Live;
-  adopted = record { version = version; entries = entries_in steps } ∷ [];
-  end = end_of (steps_of steps);
-  turns = length steps;
-  sites = sites_in (steps_of steps);
-  output = (state_left (start_state plan.image run.input) (steps_of steps)).output;
-  tally = tally_of (checks_in (notes_of steps));
-  fired = fired_of (firings_in (notes_of steps));
-}
+live_entry plan number run version steps =
+    entry_of plan (record { number = number; worker = 0; mode = Live; input = run.input }) (record { version = version; entries = entries_in steps } ∷ []) (steps_of steps) (notes_of steps)
 
 abbrev pub entry_of_mode : Mode → PlanOf → Ledger → ℕ → Run → Entry
 entry_of_mode Learn plan l number run = learn_entry plan number run (plain_run plan.image run.input plan.budget)

@@ -1,31 +1,11 @@
 -- The world: instances that draw, enter, turn and post in any order (docs/REPAIR.md, "The world").
-use Rattle.std.specs.Prelude.{ℕ, Bool, true, false, not, ◌&&◌, ◌||◌, ◌==◌, ◌+◌, ◌-◌, if◌then◌else◌, List, [], ◌∷◌, length, find, replicate, reverse, Option, Some, None, option_map, slice_get, unwrap_or}
+use Rattle.std.specs.Prelude.{ℕ, Bool, true, false, not, ◌==◌, ◌+◌, ◌-◌, if◌then◌else◌, List, [], ◌∷◌, length, find, replicate, Option, Some, None, option_map, slice_get, unwrap_or}
 use Rattle.std.specs.List.{list_any, list_all, range_with_len}
-use Rattle.cv_base.specs.declared.entries.Adopted.{Adopted}
 use Rattle.cv_base.specs.declared.entries.Entry.{Entry}
 use Rattle.cv_base.specs.PlanOf.{PlanOf}
-use Rattle.cv_runs.specs.BlockEntries.{is_entry, since_next}
-use Rattle.cv_runs.specs.PatchedRun.{PatchedStep, PatchedTurn, Table, patched_turn, patched_step, steps_of, notes_of}
-use Rattle.cv_runs.specs.PlainRun.{end_of, state_left}
-use Rattle.cv_runs.specs.PlainTurn.{turn_of}
-use Rattle.cv_runs.specs.State.{State, Outcome, Next, Ended, start_state}
-use Rattle.cv_histories.specs.Rows.{sites_in, checks_in, firings_in, tally_of, fired_of}
+use Rattle.cv_histories.specs.Flight.{Flight, begun, entered, flight_entry, has_ended, may_enter, may_turn, turned}
 use Rattle.cv_histories.specs.Runs.{Run, run_at, runs}
-use Rattle.cv_histories.specs.Seen.{is_live}
 use Rattle.cv_histories.specs.Versions.{Ledger, ledger, newest_of}
-
--- a run in flight
-pub record Flight : Type 0 where
-  pub number : ℕ
-  pub run : Run
-  pub state : State  -- before its next turn
-  pub steps : List PatchedStep  -- so far, the newest first
-  pub since : Option ℕ  -- turns since its last block entry
-  pub transferred : Bool  -- whether its last turn was a transfer
-  pub versions : List ℕ  -- adopted so far, one for each block entry, the newest first
-  pub table : Table  -- of the version adopted last
-  pub entered : Bool  -- whether it has entered before its next turn
-  pub over : Bool  -- whether its last turn ended the run
 
 pub record World : Type 0 where
   pub history : List Entry  -- the newest first
@@ -61,86 +41,9 @@ abbrev pub next_draw : PlanOf → World → Option ℕ → Option ℕ
 next_draw plan w None = None
 next_draw plan w (Some round) = slice_get (numbers_of plan round) w.drawn
 
-abbrev pub begun : PlanOf → ℕ → Run → Flight
-begun plan number run = record {
-  number = number;
-  run = run;
-  state = start_state plan.image run.input;
-  steps = [];
-  since = None;
-  transferred = false;
-  versions = [];
-  table = [];
-  entered = false;
-  over = false;
-}
-
--- a run has ended, by an end or by its budget
-abbrev pub has_ended : PlanOf → Flight → Bool
-has_ended plan f = f.over || (length f.steps == plan.budget)
-
--- a live run stands before a block entry
-abbrev pub at_entry : Flight → Bool
-at_entry f = is_live f.run.mode && is_entry f.since f.transferred
-
-abbrev pub may_enter : PlanOf → Flight → Bool
-may_enter plan f = not (has_ended plan f) && at_entry f && not f.entered
-
-abbrev pub may_turn : PlanOf → Flight → Bool
-may_turn plan f = not (has_ended plan f) && (not (at_entry f) || f.entered)
-
+-- a block entry adopts the newest version
 abbrev pub entered_with : Ledger → Flight → Flight
-entered_with l f = record f { versions = (length l.versions - 1) ∷ f.versions; table = newest_of l.versions; entered = true }
-
--- one turn, patched in a live run and plain in a learn run
-abbrev pub turned_by : Flight → PatchedStep → Outcome → Flight
-turned_by f step (Next next transfer) = record f {
-  state = next;
-  steps = step ∷ f.steps;
-  since = since_next step.enters f.since;
-  transferred = transfer;
-  entered = false;
-}
-turned_by f step (Ended end) = record f { steps = step ∷ f.steps; over = true; entered = false }
-
-abbrev pub flight_turn : PlanOf → Flight → PatchedTurn
-flight_turn plan f =
-    elim (is_live f.run.mode) [
-      | true ↦ patched_turn plan.image f.table f.state
-      | false ↦ record { notes = []; outcome = turn_of plan.image f.state }
-    ]
-
-abbrev pub turned_with : Flight → PatchedTurn → Flight
-turned_with f turn = turned_by f (patched_step f.state (is_entry f.since f.transferred) turn) turn.outcome
-
-abbrev pub turned : PlanOf → Flight → Flight
-turned plan f = turned_with f (flight_turn plan f)
-
--- versions with equal neighbours joined; from the newest first to the oldest first
-abbrev pub joined_on : ℕ → List Adopted → List Adopted
-joined_on v [] = record { version = v; entries = 1 } ∷ []
-joined_on v (a ∷ rest) =
-    if a.version == v then record { version = v; entries = a.entries + 1 } ∷ rest else record { version = v; entries = 1 } ∷ a ∷ rest
-
-abbrev pub joined : List ℕ → List Adopted
-joined [] = []
-joined (v ∷ vs) = joined_on v (joined vs)
-
--- the entry of an ended run of instance i
-abbrev pub flight_entry : PlanOf → ℕ → Flight → Entry
-flight_entry plan i f =
-    let steps = reverse f.steps in record {
-      run = f.number;
-      worker = i;
-      mode = f.run.mode;
-      adopted = reverse (joined f.versions);
-      end = end_of (steps_of steps);
-      turns = length steps;
-      sites = sites_in (steps_of steps);
-      output = (state_left (start_state plan.image f.run.input) (steps_of steps)).output;
-      tally = tally_of (checks_in (notes_of steps));
-      fired = fired_of (firings_in (notes_of steps));
-    }
+entered_with l f = entered (length l.versions - 1) (newest_of l.versions) f
 
 -- the list with a new value at place i, which exists
 abbrev pub set_flight : List (Option Flight) → ℕ → Option Flight → List (Option Flight)

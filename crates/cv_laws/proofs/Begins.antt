@@ -7,7 +7,8 @@ use Rattle.cv_base.specs.PlanOf.{PlanOf}
 use Rattle.cv_histories.specs.Legal.{round_in, round_of}
 use Rattle.cv_histories.specs.Runs.{Run, run_at}
 use Rattle.cv_histories.specs.Versions.{ledger}
-use Rattle.cv_histories.specs.World.{Flight, World, begin_with, begun, current_round, next_draw, numbers_of, with_flight}
+use Rattle.cv_histories.specs.Flight.{Flight, begun}
+use Rattle.cv_histories.specs.World.{World, begin_with, current_round, next_draw, numbers_of, with_flight}
 use Rattle.cv_laws.specs.WorldStands.{IsAhead, IsFlying, WorldStands}
 use Rattle.cv_laws.proofs.Each.{weaker}
 use Rattle.cv_laws.proofs.Flights.{begun_flies}

@@ -14,13 +14,12 @@ use Rattle.cv_histories.specs.Honest.{AreTables, IsHonest, IsLearn, IsLive, IsOf
 use Rattle.cv_histories.specs.Rows.{checks_in, firings_in, fired_of, tally_of}
 use Rattle.cv_histories.specs.Runs.{Run, run_at}
 use Rattle.cv_histories.specs.Seen.{is_live}
-use Rattle.cv_histories.specs.Versions.{Ledger, newest_of}
-use Rattle.cv_histories.specs.World.{Flight, at_entry, begun, entered_with, flight_entry, flight_turn, has_ended, joined, may_enter, may_turn, turned, turned_by, turned_with}
+use Rattle.cv_histories.specs.Flight.{Flight, at_entry, begun, done_in, entered, flight_entry, flight_turn, has_ended, joined, may_enter, may_turn, turned, turned_by, turned_with}
 use Rattle.cv_laws.proofs.PatchedSteps.{at_seam, entries_in-seam, grows_entered, step_with, table_at}
 use Rattle.cv_laws.proofs.PatchedSteps
 use Rattle.cv_laws.proofs.PlainSteps
-use Rattle.cv_laws.proofs.Versions.{joined_is, joined_written, newest_there}
-use Rattle.cv_laws.specs.Flying.{Flies, FliesBy, FliesPatched, FliesPlain, GoesPatched, IsDue, IsOverPatched, StandsPatched, done_in, rest_of, turns_under}
+use Rattle.cv_laws.proofs.Versions.{joined_is, joined_written}
+use Rattle.cv_laws.specs.Flying.{Flies, FliesBy, FliesPatched, FliesPlain, GoesPatched, IsDue, IsOverPatched, StandsPatched, rest_of, turns_under}
 use Rattle.cv_runs.specs.Apply.{Note}
 use Rattle.cv_runs.specs.BlockEntries.{is_entry, since_next}
 use Rattle.cv_runs.specs.PatchedRun.{PatchedStep, PatchedTurn, Table, entries_in, notes_of, only_if, patched_step, patched_turn, steps_of}
@@ -82,9 +81,8 @@ adopted_more versions (w ∷ vs) [] v t at are = absurd are
 adopted_more versions (w ∷ vs) (u ∷ tables) v t at are = (are.0, adopted_more versions vs tables v t at are.1)
 
 -- it goes on, whatever comes behind the new table
-goes_entered : (plan : PlanOf) (l : Ledger) (f : Flight) (tables : List Table) → at_entry f ≡ true → length f.steps < plan.budget → f.entered ≡ false → GoesPatched plan f tables → GoesPatched plan (entered_with l f) (tables ++ newest_of l.versions ∷ [])
-goes_entered plan l f tables at below first g =
-    let table = newest_of l.versions in
+goes_entered : (plan : PlanOf) (v : ℕ) (table : Table) (f : Flight) (tables : List Table) → at_entry f ≡ true → length f.steps < plan.budget → f.entered ≡ false → GoesPatched plan f tables → GoesPatched plan (entered v table f) (tables ++ table ∷ [])
+goes_entered plan v table f tables at below first g =
     let due : IsDue plan f tables g.current false = subst (IsDue plan f tables g.current) first g.due in
     record {
       current = g.current;
@@ -93,28 +91,26 @@ goes_entered plan l f tables at below first g =
     }
 
 -- a live run that enters
-patched_entered : (plan : PlanOf) (l : Ledger) (f : Flight) → 1 ≤ length l.versions → at_entry f ≡ true → f.over ≡ false → length f.steps < plan.budget → f.entered ≡ false → FliesPatched plan l.versions f → FliesPatched plan l.versions (entered_with l f)
-patched_entered plan l f some at on below first flies =
-    let table = newest_of l.versions in
-    let v = length l.versions - 1 in
+patched_entered : (plan : PlanOf) (versions : List Table) (v : ℕ) (table : Table) (f : Flight) → slice_get versions v ≡ Some table → at_entry f ≡ true → f.over ≡ false → length f.steps < plan.budget → f.entered ≡ false → FliesPatched plan versions f → FliesPatched plan versions (entered v table f)
+patched_entered plan versions v table f there at on below first flies =
     let goes : GoesPatched plan f flies.tables = subst (StandsPatched plan f flies.tables) on flies.stands in
     record {
       tables = flies.tables ++ table ∷ [];
-      adopted = subst (λ (vs : List ℕ). AreTables l.versions vs (flies.tables ++ table ∷ [])) (sym (reverse-append (v ∷ []) f.versions))
-          (adopted_more l.versions (reverse f.versions) flies.tables v table (newest_there l.versions some) flies.adopted);
-      stands = subst (StandsPatched plan (entered_with l f) (flies.tables ++ table ∷ [])) (sym on) (goes_entered plan l f flies.tables at below first goes);
+      adopted = subst (λ (vs : List ℕ). AreTables versions vs (flies.tables ++ table ∷ [])) (sym (reverse-append (v ∷ []) f.versions))
+          (adopted_more versions (reverse f.versions) flies.tables v table there flies.adopted);
+      stands = subst (StandsPatched plan (entered v table f) (flies.tables ++ table ∷ [])) (sym on) (goes_entered plan v table f flies.tables at below first goes);
     }
 
--- a run flies after a block entry
-pub entered_flies : (plan : PlanOf) (l : Ledger) (f : Flight) → 1 ≤ length l.versions → may_enter plan f ≡ true → Flies plan l.versions f → Flies plan l.versions (entered_with l f)
-entered_flies plan l f some may flies =
+-- a run flies after a block entry under a version of this table
+pub entered_flies : (plan : PlanOf) (versions : List Table) (v : ℕ) (table : Table) (f : Flight) → slice_get versions v ≡ Some table → may_enter plan f ≡ true → Flies plan versions f → Flies plan versions (entered v table f)
+entered_flies plan versions v table f there may flies =
     let enters = and_parts (not (has_ended plan f) && at_entry f) (not f.entered) may in
     let goes = and_parts (not (has_ended plan f)) (at_entry f) enters.0 in
     let lives = live_if f.run.mode (and_parts (is_live f.run.mode) (is_entry f.since f.transferred) goes.1).0 in
     let on = goes_yet plan f goes.0 flies.within in
     record {
-      of_mode = subst (λ (mode : Mode). FliesBy mode plan l.versions (entered_with l f)) (sym lives)
-          (patched_entered plan l f some goes.1 on.0 on.1 (not-true f.entered enters.1) (subst (λ (mode : Mode). FliesBy mode plan l.versions f) lives flies.of_mode));
+      of_mode = subst (λ (mode : Mode). FliesBy mode plan versions (entered v table f)) (sym lives)
+          (patched_entered plan versions v table f there goes.1 on.0 on.1 (not-true f.entered enters.1) (subst (λ (mode : Mode). FliesBy mode plan versions f) lives flies.of_mode));
       within = flies.within;
     }
 
@@ -308,7 +304,7 @@ module _ (plan : PlanOf) (i : ℕ) (f : Flight) (within : length f.steps ≤ pla
   tells_so_far : Tells plan f.run.input (steps_of (done_in f)) (flight_entry plan i f)
   tells_so_far = record {
     end = refl;
-    turns = sym (length-map (done_in f) (λ (s : PatchedStep). record { before = s.before; outcome = s.outcome }));
+    turns = refl;
     output = refl;
     sites = refl;
   }

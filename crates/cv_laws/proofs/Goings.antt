@@ -4,8 +4,9 @@ use Rattle.std.specs.List.{AllByRecursion}
 use Rattle.std.proofs.lemmas.Option.{same_Some}
 use Rattle.cv_base.specs.PlanOf.{PlanOf}
 use Rattle.cv_base.specs.declared.entries.Entry.{Entry}
-use Rattle.cv_histories.specs.Versions.{ledger, newest}
-use Rattle.cv_histories.specs.World.{Flight, World, entered_with, may_enter, may_turn, turned, turned_by, with_flight}
+use Rattle.cv_histories.specs.Versions.{ledger, newest, newest_of}
+use Rattle.cv_histories.specs.Flight.{Flight, may_enter, may_turn, turned, turned_by}
+use Rattle.cv_histories.specs.World.{World, entered_with, with_flight}
 use Rattle.cv_laws.specs.Flying.{Flies}
 use Rattle.cv_laws.specs.WorldStands.{Falls, Has, IsAhead, IsFlying, WorldStands}
 use Rattle.cv_runs.specs.BlockEntries.{since_next}
@@ -13,7 +14,7 @@ use Rattle.cv_runs.specs.PatchedRun.{PatchedStep}
 use Rattle.cv_runs.specs.State.{State, Outcome, Next, Ended}
 use Rattle.cv_laws.proofs.Flights.{entered_flies, turned_flies}
 use Rattle.cv_laws.proofs.Slots.{set_has, set_length}
-use Rattle.cv_laws.proofs.Versions.{floor_below, some_version}
+use Rattle.cv_laws.proofs.Versions.{floor_below, newest_there, some_version}
 
 -- ---- one run in flight changes, and keeps its number
 
@@ -82,7 +83,7 @@ entered_flying plan history i f may old = record {
   above_worker = (floor_below plan _ history, old.above_worker);
   above_rounds = (floor_below plan _ history, old.above_rounds);
   at_most_newest = (le_refl (newest plan history), old.at_most_newest);
-  flies = entered_flies plan (ledger plan history) f (some_version plan history) may old.flies;
+  flies = entered_flies plan (ledger plan history).versions (newest plan history) (newest_of (ledger plan history).versions) f (newest_there (ledger plan history).versions (some_version plan history)) may old.flies;
 }
 
 -- a world stands through an entering

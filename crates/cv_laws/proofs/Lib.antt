@@ -1,8 +1,12 @@
 pub mod Begins
 pub mod Each
 pub mod Flights
+pub mod Flown
 pub mod Goings
+pub mod IdlePatches
 pub mod InOrder
+pub mod JoinedRows
+pub mod NoFirings
 pub mod OneRow
 pub mod OneTable
 pub mod OneWorker
@@ -16,5 +20,7 @@ pub mod Serial
 pub mod SerialEntry
 pub mod SerialMayFollow
 pub mod Slots
+pub mod Unfired
+pub mod UnfiredSteps
 pub mod Versions
 pub mod Worlds

@@ -8,7 +8,8 @@ use Rattle.cv_base.specs.declared.entries.Entry.{Entry}
 use Rattle.cv_base.specs.PlanOf.{PlanOf}
 use Rattle.cv_histories.specs.Legal.{EarlierRoundsDone, MayFollow, floor_of, round_in, round_of}
 use Rattle.cv_histories.specs.Versions.{ledger, newest}
-use Rattle.cv_histories.specs.World.{Flight, World, current_round, drawn_after, flight_entry, has_ended, numbers_of, post_with}
+use Rattle.cv_histories.specs.Flight.{Flight, flight_entry, has_ended}
+use Rattle.cv_histories.specs.World.{World, current_round, drawn_after, numbers_of, post_with}
 use Rattle.cv_laws.specs.WorldStands.{Has, IsAhead, IsFlying, WorldStands}
 use Rattle.cv_laws.proofs.Each.{weaker}
 use Rattle.cv_laws.proofs.Flights.{ended_honest, grown_flies}

@@ -3,7 +3,8 @@ use Rattle.std.proofs.Common.{◌≡◌, ℕ, ◌⊎◌, inl, inr, ⊎_elim, zer
 use Rattle.std.specs.Prelude.{◌≢◌, replicate, slice_get}
 use Rattle.std.proofs.lemmas.Bool.{cases_eq}
 use Rattle.std.proofs.lemmas.Option.{none-some, same_Some}
-use Rattle.cv_histories.specs.World.{Flight, set_flight}
+use Rattle.cv_histories.specs.Flight.{Flight}
+use Rattle.cv_histories.specs.World.{set_flight}
 
 abbrev Slots : Type 0
 Slots = List (Option Flight)

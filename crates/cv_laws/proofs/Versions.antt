@@ -15,7 +15,7 @@ use Rattle.cv_histories.specs.Honest.{IsJoined}
 use Rattle.cv_histories.specs.Legal.{NeverFalls, floor_of, up_to}
 use Rattle.cv_histories.specs.Rows.{written}
 use Rattle.cv_histories.specs.Versions.{ledger, newest, newest_of, same_table, seen_by, table}
-use Rattle.cv_histories.specs.World.{joined, joined_on}
+use Rattle.cv_histories.specs.Flight.{joined, joined_on}
 use Rattle.cv_laws.specs.WorldStands.{Falls}
 use Rattle.cv_laws.proofs.PatchedSteps.{in_front}
 use Rattle.cv_runs.specs.PatchedRun.{Table}

@@ -4,12 +4,13 @@ use Rattle.std.specs.Prelude.{slice_get, unwrap_or}
 use Rattle.std.proofs.lemmas.List.{length-replicate}
 use Rattle.cv_base.specs.PlanOf.{PlanOf}
 use Rattle.cv_histories.specs.Versions.{ledger}
-use Rattle.cv_histories.specs.World.{Event, Begin, Enter, Turn, Post, Flight, World, after_event, entered_with, event_at, flight_entry, has_ended, instance_of, may_enter, may_turn, post_with, start_world, turned, with_flight}
-use Rattle.cv_laws.specs.Statements.{EveryWorldIsLegal, world_after}
+use Rattle.cv_histories.specs.Flight.{Flight, flight_entry, has_ended, may_enter, may_turn, turned}
+use Rattle.cv_histories.specs.World.{Event, Begin, Enter, Turn, Post, World, after_event, entered_with, event_at, instance_of, post_with, start_world, with_flight}
+use Rattle.cv_laws.specs.Statements.{EndedMayFollow, EveryWorldIsLegal, WorldsStand, world_after}
 use Rattle.cv_laws.specs.WorldStands.{Has, WorldStands}
 use Rattle.cv_laws.proofs.Begins.{begin_stands}
 use Rattle.cv_laws.proofs.Goings.{enter_stands, turn_stands}
-use Rattle.cv_laws.proofs.Posts.{post_stands}
+use Rattle.cv_laws.proofs.Posts.{post_follows, post_stands}
 use Rattle.cv_laws.proofs.Slots.{none_flies}
 
 -- at the start nothing is posted and nothing is in flight
@@ -62,3 +63,10 @@ events_stand plan w (e ∷ events) stands = events_stand plan (after_event plan 
 pub every_world_is_legal : EveryWorldIsLegal
 every_world_is_legal plan instances events few =
     (events_stand plan (start_world instances) events (start_stands plan instances few)).legal
+
+-- the same as laws
+pub worlds_stand : WorldsStand
+worlds_stand plan = (start_stands plan, event_stands plan)
+
+pub ended_may_follow : EndedMayFollow
+ended_may_follow plan w i f stands has ended = post_follows plan w i f stands has ended

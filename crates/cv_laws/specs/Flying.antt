@@ -5,14 +5,10 @@ use Rattle.cv_base.specs.declared.plan.Mode.{Mode}
 use Rattle.cv_base.specs.declared.plan.Mode.TheVariants.{Learn, Live}
 use Rattle.cv_base.specs.PlanOf.{PlanOf}
 use Rattle.cv_histories.specs.Honest.{AreTables}
-use Rattle.cv_histories.specs.World.{Flight, at_entry}
+use Rattle.cv_histories.specs.Flight.{Flight, at_entry, done_in}
 use Rattle.cv_runs.specs.PatchedRun.{PatchedStep, Table, entries_in, patched_from, steps_of}
 use Rattle.cv_runs.specs.PlainRun.{Step, steps_from}
 use Rattle.cv_runs.specs.State.{start_state}
-
--- the steps so far, the oldest first
-abbrev pub done_in : Flight → List PatchedStep
-done_in f = reverse f.steps
 
 -- ---- live runs
 

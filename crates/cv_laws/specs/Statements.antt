@@ -1,12 +1,22 @@
 -- Laws on histories (docs/REPAIR.md, "Laws on histories").
-use Rattle.std.specs.Prelude.{◌≡◌, ◌≤◌, ℕ, List}
-use Rattle.std.specs.List.{fold}
+use Rattle.std.specs.Prelude.{◌≡◌, ◌≤◌, ℕ, true, List, [], reverse, Some, slice_get}
+use Rattle.std.specs.List.{AllByRecursion, fold}
+use Rattle.cv_base.specs.declared.entries.Adopted.{Adopted}
 use Rattle.cv_base.specs.declared.entries.Entry.{Entry}
 use Rattle.cv_base.specs.PlanOf.{PlanOf, IsPlan}
-use Rattle.cv_histories.specs.Legal.{IsLegal, IsWhole}
-use Rattle.cv_histories.specs.Serial.{serial}
+use Rattle.cv_base.specs.declared.plan.Mode.TheVariants.{Learn}
+use Rattle.cv_histories.specs.Flight.{Adoption, Flight, begun, done_in, flight_entry, flown, has_ended, joined}
+use Rattle.cv_histories.specs.Honest.{IsHonest, IsJoined}
+use Rattle.cv_histories.specs.Legal.{IsLegal, IsWhole, MayFollow}
+use Rattle.cv_histories.specs.Rows.{written}
+use Rattle.cv_histories.specs.Runs.{Run, run_at}
+use Rattle.cv_histories.specs.Unfired.{SaysPlain, UnfiredArePlain}
+use Rattle.cv_histories.specs.Serial.{learn_entry, serial}
 use Rattle.cv_histories.specs.World.{Event, World, after_event, start_world}
 use Rattle.cv_laws.specs.InOrder.{AreByWorkerZero}
+use Rattle.cv_laws.specs.WorldStands.{Has, WorldStands}
+use Rattle.cv_runs.specs.PatchedRun.{Table, steps_of}
+use Rattle.cv_runs.specs.PlainRun.{plain_run}
 
 -- the world after some events, the first one first
 abbrev pub world_after : PlanOf → World → List Event → World
@@ -17,6 +27,57 @@ abbrev pub EveryWorldIsLegal : Type 0
 EveryWorldIsLegal =
     (plan : PlanOf) (instances : ℕ) (events : List Event) → instances ≤ plan.workers
     → IsLegal plan (world_after plan (start_world instances) events).history
+
+-- what stays true of a world is so at its start and through any event
+abbrev pub WorldsStand : Type 0
+WorldsStand =
+    (plan : PlanOf) → ((instances : ℕ) → instances ≤ plan.workers → WorldStands plan (start_world instances))
+    × ((w : World) (e : Event) → WorldStands plan w → WorldStands plan (after_event plan w e))
+
+-- and the entry of a run that has ended may follow what was posted
+abbrev pub EndedMayFollow : Type 0
+EndedMayFollow =
+    (plan : PlanOf) (w : World) (i : ℕ) (f : Flight) → WorldStands plan w → Has w i f → has_ended plan f ≡ true
+    → MayFollow plan w.history (flight_entry plan i f)
+
+-- adoptions are of versions of these tables
+abbrev pub AreOf : List Table → List Adoption → Type 0
+AreOf versions adoptions = AllByRecursion (λ (a : Adoption). slice_get versions a.version ≡ Some a.table) adoptions
+
+-- a run of the plan, told by its turns and its adoptions, has an honest entry at its end
+abbrev pub FlownIsHonest : Type 0
+FlownIsHonest =
+    (plan : PlanOf) (versions : List Table) (adoptions : List Adoption) (number : ℕ) (run : Run) (turns worker : ℕ)
+    → run_at plan number ≡ Some run
+    → AreOf versions adoptions
+    → has_ended plan (flown plan adoptions (begun plan number run) turns) ≡ true
+    → IsHonest plan versions (flight_entry plan worker (flown plan adoptions (begun plan number run) turns))
+
+-- it has its number and its run at every moment
+abbrev pub FlownIsOf : Type 0
+FlownIsOf =
+    (plan : PlanOf) (adoptions : List Adoption) (number : ℕ) (run : Run) (turns : ℕ)
+    → ((flown plan adoptions (begun plan number run) turns).number ≡ number) × ((flown plan adoptions (begun plan number run) turns).run ≡ run)
+
+-- a learn run has made the steps of the plain run at its end, and has the entry of these
+abbrev pub FlownIsPlain : Type 0
+FlownIsPlain =
+    (plan : PlanOf) (number worker : ℕ) (run : Run) (turns : ℕ) → run.mode ≡ Learn
+    → has_ended plan (flown plan [] (begun plan number run) turns) ≡ true
+    → (steps_of (done_in (flown plan [] (begun plan number run) turns)) ≡ plain_run plan.image run.input plan.budget)
+    × (flight_entry plan worker (flown plan [] (begun plan number run) turns) ≡ record (learn_entry plan number run (plain_run plan.image run.input plan.budget)) { worker = worker })
+
+-- rows whose neighbours have different versions are the joined form of what they write out
+abbrev pub RowsAreJoined : Type 0
+RowsAreJoined = (rows : List Adopted) → IsJoined rows → reverse (joined (reverse (written rows))) ≡ rows
+
+-- an honest entry in which no repair fired says what the plain run did, and so does each such entry
+-- of a legal history
+abbrev pub UnfiredIsPlain : Type 0
+UnfiredIsPlain = (plan : PlanOf) (versions : List Table) (e : Entry) → IsHonest plan versions e → e.fired ≡ [] → SaysPlain plan e
+
+abbrev pub LegalIsPlain : Type 0
+LegalIsPlain = (plan : PlanOf) (past : List Entry) → IsLegal plan past → UnfiredArePlain plan past
 
 -- the history of the runs in order is legal and whole
 abbrev pub SerialIsLegal : Type 0

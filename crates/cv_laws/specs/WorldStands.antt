@@ -6,7 +6,8 @@ use Rattle.cv_base.specs.PlanOf.{PlanOf}
 use Rattle.cv_histories.specs.Legal.{IsLegal, floor_of, round_of}
 use Rattle.cv_histories.specs.Runs.{run_at}
 use Rattle.cv_histories.specs.Versions.{ledger, newest}
-use Rattle.cv_histories.specs.World.{Flight, World, current_round, numbers_of}
+use Rattle.cv_histories.specs.Flight.{Flight}
+use Rattle.cv_histories.specs.World.{World, current_round, numbers_of}
 use Rattle.cv_laws.specs.Flying.{Flies}
 
 -- versions, the newest first, none of which is below the next one

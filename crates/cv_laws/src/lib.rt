@@ -3,11 +3,52 @@
 //! (docs/REPAIR.md, "Laws on histories").
 #![tactic(auto)]
 
-ghost use Rattle.cv_laws.specs.Statements.{EveryWorldIsLegal, SerialIsLegal, WorkerZeroIsSerial, OneWorkerIsSerial};
+ghost use Rattle.cv_laws.specs.Statements.{EndedMayFollow, EveryWorldIsLegal, FlownIsHonest, FlownIsOf, FlownIsPlain, LegalIsPlain, OneWorkerIsSerial, RowsAreJoined, SerialIsLegal, UnfiredIsPlain, WorkerZeroIsSerial, WorldsStand};
 
 /// Every list of events leaves a legal history.
 pub fn every_world_is_legal()
     ensures { EveryWorldIsLegal }
+{}
+
+/// What stays true of a world is so at its start, and through any event.
+pub fn worlds_stand()
+    ensures { WorldsStand }
+{}
+
+/// The entry of a run in flight that has ended may follow what was posted.
+pub fn ended_may_follow()
+    ensures { EndedMayFollow }
+{}
+
+/// The entry of a run that is told by its turns and its adoptions is honest at its end.
+pub fn flown_is_honest()
+    ensures { FlownIsHonest }
+{}
+
+/// A run that is told by its turns and its adoptions has its number and its run at every moment.
+pub fn flown_is_of()
+    ensures { FlownIsOf }
+{}
+
+/// The steps of a learn run at its end are those of the plain run, and its entry is of these.
+pub fn flown_is_plain()
+    ensures { FlownIsPlain }
+{}
+
+/// Rows of adopted versions are the joined form of the versions that they write out.
+pub fn rows_are_joined()
+    ensures { RowsAreJoined }
+{}
+
+/// An honest entry in which no repair fired says what the plain run did: end, turns, output and sites
+/// are those of the run without patches (docs/REPAIR.md, "Patched runs").
+pub fn unfired_is_plain()
+    ensures { UnfiredIsPlain }
+{}
+
+/// So does each such entry of a legal history.
+pub fn legal_is_plain()
+    ensures { LegalIsPlain }
 {}
 
 /// The serial history of a plan is legal and whole.

@@ -14,14 +14,22 @@ pub fn add_entries(alloc: Global, manager: &Manager, text: &mut String) -> Resul
 {
     let entries = manager.history();
     for (number, entry) in entries.iter().enumerate() {
-        let line = entry_line(alloc, number, entry)?;
+        let line = numbered_line(alloc, number, entry)?;
         text.push_str(line.as_str())?;
     }
     Ok(())
 }
 
-/// The line of an entry.
-fn entry_line(alloc: Global, number: usize, entry: &Entry) -> Result<String, NoMemory>
+/// The line of an entry under its number in the history, with its line feed (docs/FORMATS.md,
+/// "Report"). `cv_journal` reads it back.
+pub fn entry_line(alloc: Global, number: u32, entry: &Entry) -> Result<String, NoMemory>
+    ensures { IfOk result (λ s. string_bytes s ≡ line (entry_line number entry.now)) }
+{
+    numbered_line(alloc, number as usize, entry)
+}
+
+/// The same under any number: a history is counted by its length.
+fn numbered_line(alloc: Global, number: usize, entry: &Entry) -> Result<String, NoMemory>
     ensures { IfOk result (λ s. string_bytes s ≡ line (entry_line number entry.now)) }
 {
     let run = run_text(alloc, number, entry)?;

@@ -10,5 +10,6 @@ mod texts;
 mod whole;
 
 pub use drill::drill_text;
+pub use entries::entry_line;
 pub use texts::bytes_text;
 pub use whole::report;

@@ -7,16 +7,17 @@ use Rattle.cv_base.specs.PlanOf.{PlanOf, IsPlan}
 use Rattle.cv_laws.proofs.RunOrder.{count}
 use Rattle.cv_exec.specs.ArenaOf.{Going}
 use Rattle.cv_histories.specs.Runs.{Run, run_at, runs}
-use Rattle.cv_histories.specs.World.{Begin, World, begin_with, begun, current_round, event, event_at, next_draw, numbers_from, numbers_of, with_flight}
+use Rattle.cv_histories.specs.Flight.{begun}
+use Rattle.cv_histories.specs.World.{Begin, World, begin_with, current_round, event, event_at, next_draw, numbers_from, numbers_of, with_flight}
 use Rattle.cv_laws.specs.WorldStands.{WorldStands}
 use Rattle.cv_laws.proofs.Begins.{begin_stands}
 use Rattle.cv_laws.proofs.Rounds.{IsOfRound, numbers_are}
 use Rattle.cv_manager.specs.ManagerOf.{ManagerOf}
-use Rattle.cv_world.specs.Flights.{flight_in}
+use Rattle.cv_exec.specs.ArenaOf.{flight_in}
 use Rattle.cv_world.specs.InstanceOf.{InstanceOf}
 use Rattle.cv_world.specs.Stands.{IsGoing, IsInstance, IsWorld, world_with}
 use Rattle.cv_world.specs.WorldOf.{WorldOf, world_of}
-use Rattle.cv_world.proofs.Goings.{taken, taken_goes, taken_is}
+use Rattle.cv_world.proofs.Goings.{taken, taken_goes}
 use Rattle.cv_world.proofs.Instances.{flight_at}
 use Rattle.cv_world.proofs.Standing.{Leaves, aloft, put, put_stands, versions_in, world_in}
 
@@ -89,15 +90,19 @@ module _ (book : ManagerOf) (drawn : ℕ) (xs : List InstanceOf) (is : IsWorld b
       ap (event_at book.plan w (Begin i)) (flight_at book.plan xs i x at ∙ ap (λ (o : Option Going). Some (flight_in book.plan o)) (none_from x.going free))
 
   -- it begins the run that is drawn
-  pub begin_leaves : (number : ℕ) → is_some x.going ≡ false → draw ≡ Some number → (y : InstanceOf) → y ≡ record x { going = Some (taken number i) } → Leaves book drawn xs (Begin i) book (drawn + 1) (slice_set xs i y)
-  begin_leaves number free drawn_is y begun' =
+  pub begin_leaves : (number : ℕ) → is_some x.going ≡ false → draw ≡ Some number → (y : InstanceOf) → y ≡ record x { going = Some (taken number i) } → flight_in y.plan y.going ≡ option_map (λ (r : Run). begun x.plan number r) (run_at x.plan number) → Leaves book drawn xs (Begin i) book (drawn + 1) (slice_set xs i y)
+  begin_leaves number free drawn_is y begun' flies =
       let next : IsDrawn book.plan drawn number = drawn_by book.plan is.plan_is w number (current_round book.plan book.past) drawn_is in
       let f = Some (begun book.plan number next.run) in
       let after : World = record (with_flight w i f) { drawn = drawn + 1 } in
       let begins : begin_with book.plan w i draw ≡ Some after =
       ap (begin_with book.plan w i) drawn_is
       ∙ ap (option_map (λ (run : Run). record (with_flight w i (Some (begun book.plan number run))) { drawn = drawn + 1 })) next.of_plan in
-      let in_flight : flight_in book.plan y.going ≡ f = ap (λ (z : InstanceOf). flight_in book.plan z.going) begun' ∙ taken_is book.plan number i next.run next.of_plan in
+      let in_flight : flight_in book.plan y.going ≡ f =
+      ap (λ (p : PlanOf). flight_in p y.going) (sym (ap (λ (z : InstanceOf). z.plan) begun' ∙ (is.each i x at).plan_is))
+      ∙ flies
+      ∙ ap (λ (p : PlanOf). option_map (λ (r : Run). begun p number r) (run_at p number)) (is.each i x at).plan_is
+      ∙ ap (option_map (λ (r : Run). begun book.plan number r)) next.of_plan in
       let new : IsInstance book.plan (versions_in book) i y = record {
         plan_is = ap (λ (z : InstanceOf). z.plan) begun' ∙ (is.each i x at).plan_is;
         run = subst (λ (z : InstanceOf). IfSome z.going (IsGoing book.plan (versions_in book) i)) (sym begun') (taken_goes book.plan (versions_in book) number i next.run next.of_plan);

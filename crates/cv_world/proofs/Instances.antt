@@ -4,9 +4,10 @@ use Rattle.std.specs.Prelude.{slice_get, slice_index_or, slice_set}
 use Rattle.std.proofs.lemmas.List.{get_or_read, length-map}
 use Rattle.std.proofs.lemmas.Option.{none-some, same_Some, slice_get_past}
 use Rattle.cv_base.specs.PlanOf.{PlanOf}
-use Rattle.cv_histories.specs.World.{Flight, set_flight}
+use Rattle.cv_histories.specs.Flight.{Flight}
+use Rattle.cv_histories.specs.World.{set_flight}
 use Rattle.cv_laws.proofs.Slots.{set_later}
-use Rattle.cv_world.specs.Flights.{flight_in}
+use Rattle.cv_exec.specs.ArenaOf.{flight_in}
 use Rattle.cv_world.specs.InstanceOf.{InstanceOf}
 
 -- what the instances have in flight

@@ -8,11 +8,12 @@ use Rattle.cv_base.specs.declared.entries.Entry.{Entry}
 use Rattle.cv_base.specs.PlanOf.{PlanOf}
 use Rattle.cv_exec.specs.ArenaOf.{Going, entry_of_going, is_over}
 use Rattle.cv_histories.specs.Legal.{MayFollow}
-use Rattle.cv_histories.specs.World.{Post, World, current_round, drawn_after, event, event_at, flight_entry, has_ended, post_with}
+use Rattle.cv_histories.specs.Flight.{flight_entry, has_ended}
+use Rattle.cv_histories.specs.World.{Post, World, current_round, drawn_after, event, event_at, post_with}
 use Rattle.cv_laws.proofs.Posts.{post_follows, post_stands}
 use Rattle.cv_laws.proofs.Versions.{tables_stay}
 use Rattle.cv_manager.specs.ManagerOf.{ManagerOf, with_entry}
-use Rattle.cv_world.specs.Flights.{flight_in}
+use Rattle.cv_exec.specs.ArenaOf.{flight_in}
 use Rattle.cv_world.specs.InstanceOf.{InstanceOf}
 use Rattle.cv_world.specs.Stands.{IsGoing, IsInstance, IsWorld}
 use Rattle.cv_world.proofs.Goings.{ended_same, entry_same, grown_goes}
@@ -66,7 +67,7 @@ module _ (book : ManagerOf) (drawn : ℕ) (xs : List InstanceOf) (is : IsWorld b
   -- the definitions ask the same of its run
   same : (g : Going) → x.going ≡ Some g → (a : IsAloft book drawn xs i g) → has_ended book.plan a.flight ≡ is_over x.plan x.going
   same g has a =
-      ended_same book.plan is.plan_is (versions_in book) i g a.goes a.flight a.in_flight a.flying.flies
+      ended_same book.plan (versions_in book) i g a.goes a.flight a.in_flight
       ∙ ap (λ (p : PlanOf). is_over p (Some g)) post_plan ∙ ap (λ (o : Option Going). is_over x.plan o) (sym has)
 
   -- its run has ended, with this flight and entry
@@ -82,7 +83,6 @@ module _ (book : ManagerOf) (drawn : ℕ) (xs : List InstanceOf) (is : IsWorld b
   done_by None has over = absurd cc
   done_by (Some g) has over =
       let a = aloft book drawn xs is i x g at has in
-      let over_in : is_over book.plan (Some g) ≡ true = subst (λ (p : PlanOf). is_over p (Some g) ≡ true) (sym post_plan) over in
       record {
         going = g;
         has = has;
@@ -90,7 +90,7 @@ module _ (book : ManagerOf) (drawn : ℕ) (xs : List InstanceOf) (is : IsWorld b
         ended = same g has a ∙ ap (λ (o : Option Going). is_over x.plan o) has ∙ over;
         entry =
             ap (λ (p : PlanOf). entry_of_going p x.going) (sym post_plan) ∙ ap (entry_of_going book.plan) has
-            ∙ entry_same book.plan is.plan_is (versions_in book) i g a.goes a.flight a.in_flight a.flying.flies over_in;
+            ∙ entry_same book.plan (versions_in book) i g a.goes a.flight a.in_flight;
       }
 
   -- whatever it has

@@ -5,11 +5,12 @@ use Rattle.std.proofs.lemmas.Option.{IfSome_then}
 use Rattle.cv_base.specs.declared.entries.Entry.{Entry}
 use Rattle.cv_exec.specs.ArenaOf.{Going}
 use Rattle.cv_histories.specs.Versions.{ledger}
-use Rattle.cv_histories.specs.World.{Event, Begin, Enter, Turn, Post, Flight, World, event, event_at, instance_of, with_flight}
+use Rattle.cv_histories.specs.Flight.{Flight}
+use Rattle.cv_histories.specs.World.{Event, Begin, Enter, Turn, Post, World, event, event_at, instance_of, with_flight}
 use Rattle.cv_laws.specs.WorldStands.{Has, IsFlying, WorldStands}
 use Rattle.cv_manager.specs.ManagerOf.{ManagerOf}
 use Rattle.cv_runs.specs.PatchedRun.{Table}
-use Rattle.cv_world.specs.Flights.{flight_in}
+use Rattle.cv_exec.specs.ArenaOf.{flight_in}
 use Rattle.cv_world.specs.InstanceOf.{InstanceOf}
 use Rattle.cv_world.specs.Stands.{IsGoing, IsInstance, IsWorld, world_with}
 use Rattle.cv_world.specs.WorldOf.{world_of}

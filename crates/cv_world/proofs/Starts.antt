@@ -3,7 +3,8 @@ use Rattle.std.proofs.Common.{◌≡◌, ◌≤◌, ℕ, zero, suc, List, [], �
 use Rattle.std.specs.Prelude.{slice_get}
 use Rattle.std.proofs.lemmas.Option.{none-some, same_Some}
 use Rattle.cv_base.specs.PlanOf.{PlanOf, IsPlan}
-use Rattle.cv_histories.specs.World.{Flight, start_world}
+use Rattle.cv_histories.specs.Flight.{Flight}
+use Rattle.cv_histories.specs.World.{start_world}
 use Rattle.cv_laws.specs.WorldStands.{WorldStands}
 use Rattle.cv_laws.proofs.Worlds.{start_stands}
 use Rattle.cv_manager.specs.ManagerOf.{ManagerOf, empty_manager}

@@ -1,14 +1,11 @@
 -- What an instance stands for: its plan, and the run that it has, which may have its record already.
-use Rattle.std.specs.Prelude.{◌≡◌, ℕ, Bool, true, List, length, Option, Some, None, is_some, not, ◌&&◌, IfSome}
-use Rattle.cv_base.specs.declared.plan.Mode.{Mode}
-use Rattle.cv_base.specs.declared.plan.Mode.TheVariants.{Learn, Live}
+use Rattle.std.specs.Prelude.{◌≡◌, Bool, true, false, Option, Some, None, is_some, not, ◌&&◌, IfSome}
 use Rattle.cv_base.specs.PlanOf.{PlanOf}
-use Rattle.cv_exec.specs.ArenaOf.{ArenaOf, Going, entry_of_going, is_over, seen_so_far, wants}
-use Rattle.cv_exec.specs.LiveRun.{live_steps}
+use Rattle.cv_exec.specs.ArenaOf.{ArenaOf, Going, entry_of_going, is_over, wants}
 use Rattle.cv_exec.specs.RecordOf.{RecordOf}
-use Rattle.cv_histories.specs.Runs.{Run, run_at}
+use Rattle.cv_histories.specs.Runs.{run_at}
+use Rattle.cv_histories.specs.Seen.{is_live, observed_of}
 use Rattle.cv_observe.specs.StandsFor.{StandsFor, SummaryOf}
-use Rattle.cv_runs.specs.PatchedRun.{PatchedStep}
 
 pub record InstanceOf : Type 0 where
   pub plan : PlanOf
@@ -22,23 +19,14 @@ abbrev pub going_in : Option RecordOf → Option Going → Option Going
 going_in None going = going
 going_in (Some r) going = Some (going_of r)
 
--- the steps of a live run are as many as its turns
-abbrev pub HasTurns : Mode → PlanOf → Going → List ℕ → Type 0
-HasTurns Learn plan g input = Unit {0}
-HasTurns Live plan g input = IfSome (live_steps plan input g.adopted g.turns) (λ (steps : List PatchedStep). length steps ≡ g.turns)
-
-abbrev pub IsTimed : PlanOf → Going → Type 0
-IsTimed plan g = IfSome (run_at plan g.run) (λ (run : Run). HasTurns run.mode plan g run.input)
-
 -- the record is that of its run, which has ended, and the summary is of the run
 pub record IsFinished (plan : PlanOf) (summary : SummaryOf) (r : RecordOf) : Type 0 where
   pub over : is_over plan (Some (going_of r)) ≡ true
   pub entry : entry_of_going plan (Some (going_of r)) ≡ Some r.entry
-  pub seen : StandsFor summary (seen_so_far plan (Some (going_of r)))
+  pub observed : is_live r.entry.mode ≡ false → StandsFor summary (observed_of plan (run_at plan r.entry.run))
 
 -- a record is kept only where no run goes on in the arena
 pub record IsKept (arena : ArenaOf) (kept : Option RecordOf) : Type 0 where
-  pub timed : IfSome arena.going (IsTimed arena.plan)
   pub finished : IfSome kept (IsFinished arena.plan arena.summary)
   pub one : IfSome kept (λ r. arena.going ≡ None)
 

@@ -1,27 +1,21 @@
 -- What stays true of a world's parts (docs/REPAIR.md, "The world").
-use Rattle.std.specs.Prelude.{◌≡◌, ℕ, List, length, map, Some, IfSome, slice_get}
+use Rattle.std.specs.Prelude.{◌≡◌, ℕ, List, map, Some, IfSome, slice_get}
 use Rattle.cv_base.specs.PlanOf.{PlanOf, IsPlan}
 use Rattle.cv_exec.specs.ArenaOf.{Going}
-use Rattle.cv_exec.specs.LiveRun.{HaveTables, rows_of}
-use Rattle.cv_histories.specs.Honest.{IsJoined}
+use Rattle.cv_exec.specs.LiveRun.{HaveTables}
 use Rattle.cv_histories.specs.Runs.{Run, run_at}
 use Rattle.cv_histories.specs.Versions.{ledger}
 use Rattle.cv_laws.specs.WorldStands.{WorldStands}
 use Rattle.cv_manager.specs.ManagerOf.{ManagerOf}
-use Rattle.cv_runs.specs.PatchedRun.{PatchedStep, Table}
-use Rattle.cv_world.specs.Flights.{steps_by}
+use Rattle.cv_runs.specs.PatchedRun.{Table}
 use Rattle.cv_world.specs.InstanceOf.{InstanceOf}
 use Rattle.cv_world.specs.WorldOf.{WorldOf, world_of}
 
 -- a run that goes on as worker i, under versions of these tables
 pub record IsGoing (plan : PlanOf) (versions : List Table) (i : ℕ) (g : Going) : Type 0 where
   pub run : Run
-  pub steps : List PatchedStep
   pub of_plan : run_at plan g.run ≡ Some run
   pub worker : g.worker ≡ i
-  pub made : steps_by run.mode plan run.input g ≡ Some steps
-  pub turns : length steps ≡ g.turns
-  pub joined : IsJoined (rows_of g.adopted)
   pub tables : HaveTables versions g.adopted
 
 -- instance i is of the plan, and so is its run

@@ -5,7 +5,7 @@ use Rattle.cv_base.specs.declared.entries.Entry.{Entry}
 use Rattle.cv_base.specs.PlanOf.{PlanOf}
 use Rattle.cv_exec.specs.ArenaOf.{Going}
 use Rattle.cv_histories.specs.World.{World}
-use Rattle.cv_world.specs.Flights.{flight_in}
+use Rattle.cv_exec.specs.ArenaOf.{flight_in}
 
 pub record WorldOf : Type 0 where
   pub plan : PlanOf

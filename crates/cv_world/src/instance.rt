@@ -1,8 +1,10 @@
-ghost use Rattle.std.specs.Prelude.{◌≡◌, ◌<◌, [], false, true, Some, None, is_some, IfOk, IfSome, OnErr, OnOk, IsSome};
-ghost use Rattle.cv_exec.specs.ArenaOf.{adopted_in, entered, entry_of_going, is_over, one_more, wants};
+ghost use Rattle.std.specs.Prelude.{◌≡◌, ◌<◌, [], false, true, Some, None, is_some, option_map, IfOk, IfSome, OnErr, OnOk, IsSome};
+ghost use Rattle.cv_exec.specs.ArenaOf.{adopted_in, entered, entry_of_going, flight_in, is_over, one_more, wants};
 ghost use Rattle.cv_exec.specs.LiveRun.{MayAdopt};
+ghost use Rattle.cv_histories.specs.Flight as flight;
+ghost use Rattle.cv_histories.specs.Flight.{begun, turned};
 ghost use Rattle.cv_histories.specs.Legal.{MayFollow};
-ghost use Rattle.cv_histories.specs.Runs.{run_at};
+ghost use Rattle.cv_histories.specs.Runs.{Run, run_at};
 ghost use Rattle.cv_manager.specs.ManagerOf.{with_entry};
 ghost use Rattle.cv_world.specs.InstanceOf.{IsFinished, IsKept, going_in, going_of, may_turn_in};
 
@@ -89,6 +91,7 @@ impl Instance {
         requires run { IsSome (run_at plan.now run) }
         requires worker { worker < plan.now.workers }
         ensures begun { OnOk result (self.new ≡ record self.old { going = Some (record { run = run; worker = worker; turns = 0; adopted = [] }) }) }
+        ensures flight { OnOk result (flight_in self.new.plan self.new.going ≡ option_map (λ (r : Run). begun self.old.plan run r) (run_at self.old.plan run)) }
         ensures err { OnErr result (self.new ≡ self.old) }
     {
         self.arena.start(alloc, plan, run, worker)?;
@@ -105,6 +108,7 @@ impl Instance {
         requires wanted { wants self.old.plan self.old.going ≡ true }
         requires may { MayAdopt version table.value (adopted_in self.old.going) }
         ensures entered { OnOk result (self.new ≡ record self.old { going = entered version table.value self.old.going }) }
+        ensures flight { OnOk result (flight_in self.new.plan self.new.going ≡ option_map (flight.entered version table.value) (flight_in self.old.plan self.old.going)) }
         ensures err { OnErr result (self.new ≡ self.old) }
     {
         self.arena.adopt(version, table)
@@ -116,6 +120,7 @@ impl Instance {
         requires goes_on { is_over self.old.plan self.old.going ≡ false }
         requires entered { wants self.old.plan self.old.going ≡ false }
         ensures turned { OnOk result (self.new ≡ record self.old { going = one_more self.old.going }) }
+        ensures flight { OnOk result (flight_in self.new.plan self.new.going ≡ option_map (turned self.old.plan) (flight_in self.old.plan self.old.going)) }
         ensures err { OnErr result (self.new ≡ self.old) }
     {
         self.arena.step()?;

@@ -1,8 +1,8 @@
-use Rattle.std.proofs.Common.{◌≡◌, ◌∙◌, sym, ap}
+use Rattle.std.proofs.Common.{◌≡◌, ◌∙◌, Some, ap, sym}
 use Rattle.cv_exec.specs.ArenaOf.{adopted_in, entry_of_going}
+use Rattle.cv_exec.specs.ArenaStands.{turns_in}
 use Rattle.cv_exec.specs.LiveRun.{HaveTables}
-use Rattle.cv_exec.specs.StandsAt.{turns_in}
-use Rattle.cv_exec.proofs.Living.{says_plain}
+use Rattle.cv_exec.proofs.Numbered.{live_of}
 use Rattle.cv_histories.specs.Honest.{IsHonest}
 use Rattle.cv_exec.proofs.arena.Arena.live.Goals as goal
 
@@ -13,10 +13,18 @@ returns-clause-unfired g c =
     let tables = g.A.Adopter.tables c.loop-over.adopter in
     let have : HaveTables tables record_of.adopted = rw c.in_ok-record.ensures.adopted c.loop-over.invariant.tables in
     let honest : IsHonest c.args.plan.now tables record_of.entry = rw (plan, c.entry-honest.ensures.value) at (c.entry-honest.ensures.honest tables have) in
-    says_plain c.args.plan.now
-    (record { run = c.args.run; worker = c.args.worker; turns = turns_in c.loop-over.self.going; adopted = adopted_in c.loop-over.self.going })
-    tables record_of.entry c.unfired_is_plain.ensures c.requires.lives
-    (ap (entry_of_going c.args.plan.now) (sym c.loop-over.invariant.going)
-    ∙ ap (λ p. entry_of_going p c.loop-over.self.going) (sym c.loop-over.invariant.plan)
-    ∙ c.in_ok-record.ensures.entry)
-    honest
+    c.unfired_is_plain.ensures c.args.plan.now tables record_of.entry honest
+
+pub returns-clause-run : goal.returns-clause-run
+returns-clause-run g c =
+    let going = c.loop-over.invariant.going in
+    let entry = ap (entry_of_going c.args.plan.now) (sym going) ∙ ap (λ p. entry_of_going p c.loop-over.self.going) (sym c.loop-over.invariant.plan) ∙ c.in_ok-record.ensures.entry in
+    let of = live_of c.flown_is_of.ensures c.args.plan.now c.args.run c.args.worker (turns_in c.loop-over.self.going) (adopted_in c.loop-over.self.going) c.in_ok-record.record.entry c.requires.lives entry in
+    of.run
+
+pub returns-clause-live : goal.returns-clause-live
+returns-clause-live g c =
+    let going = c.loop-over.invariant.going in
+    let entry = ap (entry_of_going c.args.plan.now) (sym going) ∙ ap (λ p. entry_of_going p c.loop-over.self.going) (sym c.loop-over.invariant.plan) ∙ c.in_ok-record.ensures.entry in
+    let of = live_of c.flown_is_of.ensures c.args.plan.now c.args.run c.args.worker (turns_in c.loop-over.self.going) (adopted_in c.loop-over.self.going) c.in_ok-record.record.entry c.requires.lives entry in
+    of.mode

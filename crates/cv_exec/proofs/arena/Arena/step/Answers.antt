@@ -1,56 +1,89 @@
-use Rattle.std.proofs.Common.{◌≤◌, ◌+◌, ◌-◌, ◌∙◌, Some, None, ap, sym, arith}
+use Rattle.std.proofs.Common.{◌≡◌, ◌≤◌, ◌-◌, ◌∙◌, false, [], None, Some, sym, ap, arith}
+use Rattle.std.specs.Prelude.{is_some}
 use Rattle.cv_base.specs.PlanOf.{PlanOf}
-use Rattle.cv_exec.specs.StandsAt.{IsArena}
-use Rattle.cv_exec.proofs.Runs.{not_over, over}
-use Rattle.cv_exec.proofs.Stages.{gone_on}
-use Rattle.cv_exec.proofs.Turning.{after, may_turn, turning}
-use Rattle.cv_exec.proofs.arena.Arena.step.Goals.{in-Some-patched, in-None+in_ok-see-in-None}
+use Rattle.cv_exec.specs.ArenaStands.{IsStarted}
+use Rattle.cv_exec.specs.Keeping.{wants_by}
+use Rattle.cv_exec.proofs.Moves.{learn_after, learn_flight, live_after, live_flight, may_turn_now}
+use Rattle.cv_exec.proofs.Standing.{ends_none, over, stays}
 use Rattle.cv_exec.proofs.arena.Arena.step.Goals as goal
 
-pub turn-end-requires : goal.turn-end-requires
-turn-end-requires c =
-    let few : c.self.inside.plan.budget ≤ 10000000 = omega (arith, c.budget_of.ensures.few, rw c.get.ensures at c.budget_of.ensures.value) in
-    let t = turning c.self.inside.plan c.self.inside.machine c.self.inside.summary c.in-Some.started c.in-Some-patched.patched
-    (rw (c.in-Some.is, c.in-Some-patched.is) at c.self.invariant.run)
-    (rw (← c.self.view_is, c.in-Some.is, c.in-Some-patched.is) at c.requires.goes_on)
-    (rw (← c.self.view_is, c.in-Some.is, c.in-Some-patched.is) at c.requires.entered) in
-    may_turn _ _ _ _ _ t c.self.invariant.image c.self.invariant.point few
+-- ---- a learn run
 
-stands : (c : goal.After-is_some) → IsArena c.match-self-2.self-inside.plan c.match-self-2.self-inside.machine c.match-self-2.self-inside.summary c.match-self-2.self-inside.text c.match-self-2.self-inside.patched (Some (record { run = c.in-Some.started.run; worker = c.in-Some.started.worker; turns = c.in-Some.started.turns + 1; end = c.match-self-2.end }))
-stands c =
-    elim c.match-self-2.branch [
-      | in-Some-patched w ↦
-          let t = turning c.self.inside.plan c.self.inside.machine c.self.inside.summary c.in-Some.started w.in-Some-patched.patched
-          (rw (c.in-Some.is, w.in-Some-patched.is) at c.self.invariant.run)
-          (rw (← c.self.view_is, c.in-Some.is, w.in-Some-patched.is) at c.requires.goes_on)
-          (rw (← c.self.view_is, c.in-Some.is, w.in-Some-patched.is) at c.requires.entered) in
-          let all = ap (λ n. n - c.in-Some.started.turns) (c.budget_of.ensures.value ∙ ap (λ (p : PlanOf). p.budget) c.get.ensures) in
-          rw (w.self-inside-is, w.end-is) (record {
-            image = w.turn-end.ensures.image ∙ c.self.invariant.image;
-            point = w.turn-end.ensures.point;
-            text = c.self.invariant.text;
-            ranged = c.self.invariant.ranged;
-            run = after _ _ _ _ _ t c.self.inside.machine.image w.turn-end.new.machine w.turn-end.new.self _ w.turn-end.result c.self.invariant.image all w.turn-end.ensures.state w.turn-end.ensures.end w.turn-end.ensures.noted w.turn-end.ensures.next;
-          })
-      | in-None+in_ok-see-in-None w ↦
-          let before = rw (c.in-Some.is, w.in-None.is) at c.self.invariant.run in
-          rw (w.self-inside-is, w.end-is, w.in-None.is) (record {
-            image = w.turn-end-in-None.ensures.image ∙ c.self.invariant.image;
-            point = w.turn-end-in-None.ensures.point;
-            text = w.in_ok-see-in-None.ensures.text ∙ c.self.invariant.text;
-            ranged = c.self.invariant.ranged;
-            run =
-                gone_on c.self.inside.plan c.self.inside.machine w.turn-end-in-None.new.machine c.self.inside.summary w.see.new.summary c.in-Some.started w.turn-end-in-None.result
-                (not_over _ _ _ None _ before (rw (← c.self.view_is, c.in-Some.is, w.in-None.is) at c.requires.goes_on))
-                before
-                (rw w.core.ensures at w.in_ok-see-in-None.ensures.ok)
-                (rw (c.budget_of.ensures.value, c.get.ensures, c.self.invariant.image) at w.turn-end-in-None.ensures.end)
-                (rw c.self.invariant.image at w.turn-end-in-None.ensures.state);
-          })
-    ]
+learn_old : (c : goal.After-took) → IsStarted c.self.inside.plan c.self.inside.machine c.self.inside.summary None [] c.in-Learning.started
+learn_old c = rw c.in-Learning.is at c.self.invariant.run
 
-pub invariant_of-self-2 : goal.invariant_of-self-2
-invariant_of-self-2 c = stands c
+learn_on : (c : goal.After-took) → c.in-Learning.started.end ≡ None
+learn_on c = ends_none _ _ _ _ _ _ (learn_old c) (rw (← c.self.view_is, c.in-Learning.is) at c.requires.goes_on)
 
-pub returns-clause-ended : goal.returns-clause-ended
-returns-clause-ended c = let now = stands c in c.is_some.ensures ∙ sym (over _ _ _ _ _ now.run)
+learn_new : (c : goal.After-took) → IsStarted c.self.inside.plan c.turn-end.new.machine c.see.new.summary None [] c.took.new.self
+learn_new c =
+    let image = c.self.invariant.image in
+    let left = ap (λ n. n - c.in-Learning.started.turns) (c.budget_of-budget.ensures.value ∙ ap (λ (p : PlanOf). p.budget) c.get.ensures) in
+    rw c.took.ensures.turn
+    (learn_after c.self.inside.plan c.self.inside.machine c.turn-end.new.machine c.self.inside.summary c.see.new.summary c.in-Learning.started (learn_old c) (learn_on c) _ c.turn-end.result
+    (rw c.core.ensures at c.in_ok-see-in-Learning.ensures.ok)
+    (rw image at c.turn-end.ensures.state)
+    left
+    (rw image at c.turn-end.ensures.end))
+
+pub invariant_of-self-in-Learning : goal.invariant_of-self-in-Learning
+invariant_of-self-in-Learning c = record {
+  image = c.turn-end.ensures.image ∙ c.self.invariant.image;
+  point = c.turn-end.ensures.point;
+  text = c.in_ok-see-in-Learning.ensures.text ∙ c.self.invariant.text;
+  ranged = c.self.invariant.ranged;
+  run = learn_new c;
+}
+
+pub returns-in_ok-see-in-Learning-clause-flight : goal.returns-in_ok-see-in-Learning-clause-flight
+returns-in_ok-see-in-Learning-clause-flight c =
+    rw (c.took.ensures.turn, ← c.self.view_is, c.in-Learning.is)
+    (learn_flight c.self.inside.plan c.self.inside.machine c.turn-end.new.machine c.self.inside.summary c.see.new.summary c.in-Learning.started (learn_old c) (learn_on c))
+
+pub returns-in_ok-see-in-Learning-clause-ended : goal.returns-in_ok-see-in-Learning-clause-ended
+returns-in_ok-see-in-Learning-clause-ended c = c.took.ensures.ended ∙ sym (over _ _ _ _ _ _ (learn_new c) ∙ ap (λ s. is_some s.end) c.took.ensures.turn)
+
+-- ---- a live run
+
+pub turn-end-requires-in-Living : goal.turn-end-requires-in-Living
+turn-end-requires-in-Living c =
+    let few : c.self.inside.plan.budget ≤ 10000000 = omega (arith, c.budget_of-budget.ensures.few, rw c.get.ensures at c.budget_of-budget.ensures.value) in
+    let old = rw c.in-Living.is at c.self.invariant.run in
+    let none = ends_none _ _ _ _ _ _ old (rw (← c.self.view_is, c.in-Living.is) at c.requires.goes_on) in
+    let still = stays _ _ _ _ _ old none (rw (← c.self.view_is, c.in-Living.is) at c.requires.entered) in
+    may_turn_now c.self.inside.plan c.self.inside.machine c.self.inside.machine c.self.inside.summary c.in-Living.started c.in-Living.patched old none still c.self.invariant.image c.self.invariant.point few
+
+live_old : (c : goal.After-took-in-Living) → IsStarted c.self.inside.plan c.self.inside.machine c.self.inside.summary (Some c.in-Living.patched) c.in-Living.patched.spans.items c.in-Living.started
+live_old c = rw c.in-Living.is at c.self.invariant.run
+
+live_on : (c : goal.After-took-in-Living) → c.in-Living.started.end ≡ None
+live_on c = ends_none _ _ _ _ _ _ (live_old c) (rw (← c.self.view_is, c.in-Living.is) at c.requires.goes_on)
+
+live_still : (c : goal.After-took-in-Living) → wants_by c.in-Living.patched ≡ false
+live_still c = stays _ _ _ _ _ (live_old c) (live_on c) (rw (← c.self.view_is, c.in-Living.is) at c.requires.entered)
+
+live_new : (c : goal.After-took-in-Living) → IsStarted c.self.inside.plan c.turn-end-in-Living.new.machine c.self.inside.summary (Some c.turn-end-in-Living.new.self) c.turn-end-in-Living.new.self.spans.items c.took-in-Living.new.self
+live_new c =
+    let left = ap (λ n. n - c.in-Living.started.turns) (c.budget_of-budget.ensures.value ∙ ap (λ (p : PlanOf). p.budget) c.get.ensures) in
+    let turn = c.turn-end-in-Living in
+    rw c.took-in-Living.ensures.turn
+    (live_after c.self.inside.plan c.self.inside.machine turn.new.machine c.self.inside.summary c.in-Living.started c.in-Living.patched (live_old c) (live_on c) (live_still c)
+    c.self.inside.machine.image turn.new.self _ turn.result c.self.invariant.image left turn.ensures.state turn.ensures.end turn.ensures.noted turn.ensures.next)
+
+pub invariant_of-self-in-Living : goal.invariant_of-self-in-Living
+invariant_of-self-in-Living c = record {
+  image = c.turn-end-in-Living.ensures.image ∙ c.self.invariant.image;
+  point = c.turn-end-in-Living.ensures.point;
+  text = c.self.invariant.text;
+  ranged = c.self.invariant.ranged;
+  run = live_new c;
+}
+
+pub returns-in-Living-clause-flight : goal.returns-in-Living-clause-flight
+returns-in-Living-clause-flight c =
+    let spans = ap (λ v. v.items) c.turn-end-in-Living.ensures.noted.spans in
+    rw (c.took-in-Living.ensures.turn, spans, ← c.self.view_is, c.in-Living.is)
+    (live_flight c.self.inside.plan c.self.inside.machine c.turn-end-in-Living.new.machine c.self.inside.summary c.in-Living.started c.in-Living.patched (live_old c) (live_on c) (live_still c))
+
+pub returns-in-Living-clause-ended : goal.returns-in-Living-clause-ended
+returns-in-Living-clause-ended c = c.took-in-Living.ensures.ended ∙ sym (over _ _ _ _ _ _ (live_new c) ∙ ap (λ s. is_some s.end) c.took-in-Living.ensures.turn)

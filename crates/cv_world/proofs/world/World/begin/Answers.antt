@@ -34,7 +34,7 @@ begun c =
     (slice_get_read xs c.len.result c.args.i _ count c.if-i-len.false c.index_mut.ensures.value)
     c.in-Some.run' (subst (λ (x : InstanceOf). is_some x.going ≡ false) same (sym c.if-has_run.ensures))
     (draws c.self.inside.book c.self.inside.drawn xs c.self.invariant c.args.self.now c.self.view_is c.in-Some.run' c.in-Some.ensures)
-    c.begin.new.self c.in_ok-begin.ensures.begun
+    c.begin.new.self c.in_ok-begin.ensures.begun c.in_ok-begin.ensures.flight
 
 pub invariant_of-self-2 : goal.invariant_of-self-2
 invariant_of-self-2 c = (begun c).stands

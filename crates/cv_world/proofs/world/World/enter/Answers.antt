@@ -29,7 +29,7 @@ stands c =
     (slice_get_read xs c.len.result c.args.i _ count c.if-i-len.false c.index_mut.ensures.value)
     (subst (λ (x : InstanceOf). wants x.plan x.going ≡ true) same (sym c.if-not-wants_entry.ensures))
     c.in_ok-version.version c.in_ok-version.table.value c.in_ok-version.ensures.number c.in_ok-version.ensures.table
-    c.adopt.new.self c.in_ok-adopt.ensures.entered
+    c.adopt.new.self c.in_ok-adopt.ensures.entered c.in_ok-adopt.ensures.flight
 
 pub invariant_of-self-2 : goal.invariant_of-self-2
 invariant_of-self-2 c = (stands c).stands

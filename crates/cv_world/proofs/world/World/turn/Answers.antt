@@ -17,7 +17,7 @@ turned c =
     turn_leaves c.self.inside.book c.self.inside.drawn xs c.self.invariant c.args.i c.index_mut.result.now
     (slice_get_read xs c.len.result c.args.i _ count c.if-i-len.false c.index_mut.ensures.value)
     (subst (λ (x : InstanceOf). may_turn_in x.plan x.going ≡ true) same (sym c.if-not-may_turn.ensures))
-    c.turn.new.self c.in_ok-turn.ensures.turned
+    c.turn.new.self c.in_ok-turn.ensures.turned c.in_ok-turn.ensures.flight
 
 pub invariant_of-self-2 : goal.invariant_of-self-2
 invariant_of-self-2 c = (turned c).stands

@@ -1,0 +1,34 @@
+use Rattle.std.proofs.Common.{◌≡◌, ◌∙◌, true, [], Some, ap, sym}
+use Rattle.std.proofs.lemmas.Result.{IfOk-weaker, on_ok_weaker}
+use Rattle.cv_exec.specs.ArenaOf.{entry_of_going, is_over, seen_so_far, wants}
+use Rattle.cv_exec.specs.ArenaStands.{turns_in}
+use Rattle.cv_observe.specs.StandsFor.{StandsFor}
+use Rattle.cv_exec.proofs.Numbered.{learn_entry_by, learn_seen_by, learn_waits}
+use Rattle.cv_exec.proofs.arena.Arena.learn.Goals as goal
+
+pub step-requires-clause-entered : goal.step-requires-clause-entered
+step-requires-clause-entered c =
+    let going = c.loop-over.invariant.going in
+    rw (going, c.loop-over.invariant.plan) (learn_waits c.flown_is_of.ensures c.args.plan.now c.args.run c.args.worker (turns_in c.loop-over.self.going) c.requires.learns)
+
+pub returns-clause-entry : goal.returns-clause-entry
+returns-clause-entry c =
+    let going = c.loop-over.invariant.going in
+    let over : is_over c.args.plan.now (Some (record { run = c.args.run; worker = c.args.worker; turns = turns_in c.loop-over.self.going; adopted = [] })) ≡ true =
+    ap (is_over c.args.plan.now) (sym going) ∙ ap (λ p. is_over p c.loop-over.self.going) (sym c.loop-over.invariant.plan) ∙ sym c.loop-over.invariant.over ∙ c.loop-over-test.false in
+    IfOk-weaker c.finish.result _ _
+    (λ r is.
+    learn_entry_by c.flown_is_plain.ensures c.args.plan.now c.args.run c.args.worker (turns_in c.loop-over.self.going) r.entry c.requires.learns over
+    (ap (entry_of_going c.args.plan.now) (sym going) ∙ ap (λ p. entry_of_going p c.loop-over.self.going) (sym c.loop-over.invariant.plan) ∙ is))
+    c.finish.ensures.entry
+
+pub returns-clause-seen : goal.returns-clause-seen
+returns-clause-seen c =
+    let going = c.loop-over.invariant.going in
+    let over : is_over c.args.plan.now (Some (record { run = c.args.run; worker = c.args.worker; turns = turns_in c.loop-over.self.going; adopted = [] })) ≡ true =
+    ap (is_over c.args.plan.now) (sym going) ∙ ap (λ p. is_over p c.loop-over.self.going) (sym c.loop-over.invariant.plan) ∙ sym c.loop-over.invariant.over ∙ c.loop-over-test.false in
+    on_ok_weaker c.finish.result
+    (λ seen.
+    learn_seen_by c.flown_is_of.ensures c.flown_is_plain.ensures c.args.plan.now c.finish.new.self.summary c.args.run c.args.worker (turns_in c.loop-over.self.going) c.requires.learns over
+    (seen ∙ ap (λ p. seen_so_far p c.loop-over.self.going) c.loop-over.invariant.plan ∙ ap (seen_so_far c.args.plan.now) going))
+    c.finish.ensures.seen
