@@ -16,11 +16,6 @@ FOUR = ['01000000', '02000000', '03000000', '04000000']
 
 # words, learn inputs, the last line (None: any), lines that stand there, lines that do not
 CASES = [
-    (CALLING, ['24000100', '2C000100'], 'learned 43',
-     ['one-of 00010018 x6 00010024,0001002C', 'less-than 00010018 x6 x2', 'sp-offset 00010018 00000000'], []),
-    # the third run fails, and adds nothing
-    (CALLING, ['24000100', '2C000100', '00000000'], 'learned 43',
-     ['one-of 00010018 x6 00010024,0001002C'], []),
     (CALLING, ['00000000'], 'learned 0', [], ['sp-offset 00010000 00000000']),
     (MOVING, FOUR, None, ['one-of 00010018 x6 00000001,00000002,00000003,00000004'], []),
     # a fifth value: the least, as a signed number

@@ -1,18 +1,42 @@
-"""How the tests of the built program run it: each case in a folder of its own, with its files."""
+"""How the tests of the built program run it: each case in a folder of its own, with its files. And
+whether the compiler is here that made the kept images."""
 import os
+import shutil
 import subprocess
 import sys
 import tempfile
 
+HELLO = bytes.fromhex('9308d0051305000073000000')  # a flat image that exits with 0
+MAKERS = 'riscv64-unknown-elf-gcc', 'make'
+KEPT_BY = '12.2.0'  # the compiler that made the kept images: another one makes other code
 
-def run(words, files):
-    """The words' run in a new folder that holds `files`, by name: status, output, error lines."""
+
+def run(words, files, output=subprocess.PIPE):
+    """The words' run in a new folder that holds `files`, by name (None: a folder): status, output,
+    error lines."""
     program = os.path.abspath(sys.argv[1])
     with tempfile.TemporaryDirectory() as place:
         for name, content in files.items():
+            if content is None:
+                os.mkdir(os.path.join(place, name))
+                continue
             with open(os.path.join(place, name), 'wb') as file:
                 file.write(content)
-        return subprocess.run([program] + words, cwd=place, capture_output=True, text=True, timeout=60)
+        return subprocess.run([program] + words, cwd=place, stdout=output, stderr=subprocess.PIPE,
+                              text=True, timeout=60)
+
+
+def can_build():
+    """Whether programs of guest/ can be built here."""
+    return all(shutil.which(tool) for tool in MAKERS)
+
+
+def builds_the_kept():
+    """Whether a build here gives the kept images."""
+    if not can_build():
+        return False
+    told = subprocess.run([MAKERS[0], '-dumpfullversion'], capture_output=True, text=True)
+    return told.stdout.strip() == KEPT_BY
 
 
 def ends(count, failed):
