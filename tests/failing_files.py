@@ -7,7 +7,7 @@ import os
 from program import HELLO, ends, run
 
 JOB = (b'{"image":"%s","workers":1,"checks":2,"budget":9,"rounds":[{"mode":"learn","inputs":[""]}]}')
-FILES = {'p.bin': HELLO, 'job': JOB % b'p.bin', 'folder': None}
+FILES = {'p.bin': HELLO, 'source': b'ecall\n', 'job': JOB % b'p.bin', 'folder': None}
 UNREAD = (6, '', 'clearview: cannot read\n')
 MISSING = (12, '', 'clearview: no such file\n')
 
@@ -17,6 +17,8 @@ CASES = [
     (['plain', 'folder', '9', 'none'], UNREAD),
     (['plain', 'p.bin/p.bin', '9', 'none'], UNREAD),
     (['plain', 'n' * 4097, '9', 'none'], UNREAD),
+    (['asm', 'folder'], UNREAD),
+    (['list', 'folder'], UNREAD),
 ] + [case for command in ('check', 'infer', 'run') for case in [
     ([command, 'none'], MISSING),
     ([command, 'folder'], UNREAD),
@@ -24,7 +26,8 @@ CASES = [
     ([command, 'job-of-none'], MISSING),
 ]]
 # words whose text is written to an output that is full
-FULL = [['plain', 'p.bin', '9', 'none'], ['check', 'job'], ['infer', 'job'], ['run', 'job'], ['drill', '0', '1']]
+FULL = [['plain', 'p.bin', '9', 'none'], ['check', 'job'], ['infer', 'job'], ['run', 'job'], ['drill', '0', '1'],
+        ['asm', 'source'], ['list', 'p.bin']]
 
 
 def main():

@@ -11,9 +11,9 @@ MAKERS = 'riscv64-unknown-elf-gcc', 'make'
 KEPT_BY = '12.2.0'  # the compiler that made the kept images: another one makes other code
 
 
-def run(words, files, output=subprocess.PIPE):
+def run(words, files, output=subprocess.PIPE, text=True):
     """The words' run in a new folder that holds `files`, by name (None: a folder): status, output,
-    error lines."""
+    error lines, as text or as bytes."""
     program = os.path.abspath(sys.argv[1])
     with tempfile.TemporaryDirectory() as place:
         for name, content in files.items():
@@ -23,7 +23,7 @@ def run(words, files, output=subprocess.PIPE):
             with open(os.path.join(place, name), 'wb') as file:
                 file.write(content)
         return subprocess.run([program] + words, cwd=place, stdout=output, stderr=subprocess.PIPE,
-                              text=True, timeout=60)
+                              text=text, timeout=60)
 
 
 def can_build():

@@ -25,6 +25,13 @@ CASES = [
     ('check', 16_777_216, 'clearview: job refused: not-json', 3),
     ('check', 16_777_217, 'clearview: job too long', 3),
     ('infer', 16_777_217, 'clearview: job too long', 3),
+    ('asm', None, 'clearview: no such file', 12),
+    ('asm', 4_194_304, 'clearview: source refused: line 1 unknown-name', 8),
+    ('asm', 4_194_305, 'clearview: source too long', 8),
+    ('list', None, 'clearview: no such file', 12),
+    ('list', 0, 'clearview: image refused: empty', 4),
+    ('list', 262_148, 'clearview: image refused: text-long', 4),
+    ('list', 4_194_305, 'clearview: image too long', 4),
 ]
 
 

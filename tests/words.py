@@ -6,10 +6,12 @@ from program import HELLO, ends, run
 
 FILES = {
     'p.bin': HELLO,
+    'source': b'ecall\n',
     'job': b'{"image":"p.bin","workers":1,"checks":2,"budget":9,"rounds":[{"mode":"learn","inputs":[""]}]}',
 }
 ACCEPTED = [['plain', 'p.bin', '1000', 'none'], ['plain', 'p.bin', '00001000', '0aF0'],
-            ['check', 'job'], ['infer', 'job'], ['run', 'job'], ['drill', '0', '0001']]
+            ['check', 'job'], ['infer', 'job'], ['run', 'job'], ['drill', '0', '0001'],
+            ['asm', 'source'], ['list', 'p.bin']]
 REFUSED = [
     [], [''], ['Plain', 'p.bin', '1000', 'none'], ['plain'], ['plain', 'p.bin', '1000'],
     ['plain', 'p.bin', '1000', 'none', 'none'], ['plain', '', '1000', 'none'],
@@ -19,7 +21,7 @@ REFUSED = [
     ['plain', 'p.bin', '+1', 'none'], ['plain', 'p.bin', '1e3', 'none'],
     ['plain', 'p.bin', '1000', ''], ['plain', 'p.bin', '1000', '0'],
     ['plain', 'p.bin', '1000', '0g'], ['plain', 'p.bin', '1000', 'None'],
-    *[[command, *rest] for command in ('check', 'infer', 'run')
+    *[[command, *rest] for command in ('check', 'infer', 'run', 'asm', 'list')
       for rest in ([], [''], ['-job'], ['job', 'none'])],
     ['drill', ''], ['drill', '', '1'],
 ]

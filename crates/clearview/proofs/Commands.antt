@@ -1,17 +1,18 @@
 -- What the parts of a command say of its text.
-use Rattle.std.proofs.Common.{◌≡◌, ℕ, List, Option, Some, None, Ok, Err, IfSome, inl, inr, refl, ap, ◌∙◌, arith, string_bytes}
-use Rattle.std.specs.declared.string.String.{String}
-use Rattle.std.specs.declared.alloc.Global.{Global}
+use Rattle.std.proofs.Common.{◌≡◌, ℕ, List, Option, Some, None, Ok, Err, IfSome, inl, inr, refl, ap, ◌∙◌, arith}
+use Rattle.std.specs.List.{flat_map}
+use Rattle.cv_asm.specs.Listing.{listing_of}
 use Rattle.cv_base.specs.Picture.{Picture}
 use Rattle.cv_edge.specs.Edge.{Held, FetchesUpTo, FetchesOnce}
 use Rattle.cv_base.specs.PlanOf.{PlanOf}
 use Rattle.cv_histories.specs.OtherTexts.{infer_text}
+use Rattle.cv_mem.specs.Memory.{spelled}
 use Rattle.cv_runs.specs.PlainText.{plain_text}
 use Rattle.clearview.specs.declared.cause.Cause.{Cause}
 use Rattle.clearview.specs.CheckText.{check_text}
-use Rattle.clearview.specs.Gives.{Gives, GivesText}
-use Rattle.clearview.specs.Verdict.{image_in, plan_in, verdict_by}
-use Rattle.clearview.specs.Words.{Plain, Check, Infer}
+use Rattle.clearview.specs.Gives.{Gives}
+use Rattle.clearview.specs.Verdict.{image_in, plan_in, source_in, verdict_by}
+use Rattle.clearview.specs.Words.{Plain, Check, Infer, Asm, Listing}
 
 -- ---- fetches
 
@@ -37,46 +38,76 @@ fetches_twice (Some held) (Some later) None a b = absurd b
 
 -- ---- plain
 
-pub plain_ran : (told : Option Held) (image : List ℕ) (budget : ℕ) (input : List ℕ) (picture : Picture) (s : String Global)
+pub plain_ran : (told : Option Held) (image : List ℕ) (budget : ℕ) (input : List ℕ) (picture : Picture) (text : List ℕ)
     → IfSome told (λ held. Gives (image_in (held.file image)) (Ok picture))
-    → string_bytes s ≡ plain_text picture input budget
-    → IfSome told (λ held. GivesText (verdict_by (Some (Plain image budget input)) held.file) (Ok s))
-plain_ran None image budget input picture s gives text = tt
-plain_ran (Some held) image budget input picture s gives text = rw (gives, text) refl
+    → text ≡ plain_text picture input budget
+    → IfSome told (λ held. Gives (verdict_by (Some (Plain image budget input)) held.file) (Ok text))
+plain_ran None image budget input picture text gives is = tt
+plain_ran (Some held) image budget input picture text gives is = rw (gives, is) refl
 
 pub plain_against : (told : Option Held) (image : List ℕ) (budget : ℕ) (input : List ℕ) (c : Cause)
     → IfSome told (λ held. Gives (image_in (held.file image)) (Err c))
-    → IfSome told (λ held. GivesText (verdict_by (Some (Plain image budget input)) held.file) (Err c))
+    → IfSome told (λ held. Gives (verdict_by (Some (Plain image budget input)) held.file) (Err c))
 plain_against None image budget input c gives = tt
 plain_against (Some held) image budget input c (inl e) = inl (rw e refl)
 plain_against (Some held) image budget input c (inr free) = inr free
 
 -- ---- check and infer
 
-pub check_ran : (told : Option Held) (job : List ℕ) (plan : PlanOf) (s : String Global)
+pub check_ran : (told : Option Held) (job : List ℕ) (plan : PlanOf) (text : List ℕ)
     → IfSome told (λ held. Gives (plan_in held.file job) (Ok plan))
-    → string_bytes s ≡ check_text plan
-    → IfSome told (λ held. GivesText (verdict_by (Some (Check job)) held.file) (Ok s))
-check_ran None job plan s gives text = tt
-check_ran (Some held) job plan s gives text = rw (gives, text) refl
+    → text ≡ check_text plan
+    → IfSome told (λ held. Gives (verdict_by (Some (Check job)) held.file) (Ok text))
+check_ran None job plan text gives is = tt
+check_ran (Some held) job plan text gives is = rw (gives, is) refl
 
 pub check_against : (told : Option Held) (job : List ℕ) (c : Cause)
     → IfSome told (λ held. Gives (plan_in held.file job) (Err c))
-    → IfSome told (λ held. GivesText (verdict_by (Some (Check job)) held.file) (Err c))
+    → IfSome told (λ held. Gives (verdict_by (Some (Check job)) held.file) (Err c))
 check_against None job c gives = tt
 check_against (Some held) job c (inl e) = inl (rw e refl)
 check_against (Some held) job c (inr free) = inr free
 
-pub infer_ran : (told : Option Held) (job : List ℕ) (plan : PlanOf) (s : String Global)
+pub infer_ran : (told : Option Held) (job : List ℕ) (plan : PlanOf) (text : List ℕ)
     → IfSome told (λ held. Gives (plan_in held.file job) (Ok plan))
-    → string_bytes s ≡ infer_text plan
-    → IfSome told (λ held. GivesText (verdict_by (Some (Infer job)) held.file) (Ok s))
-infer_ran None job plan s gives text = tt
-infer_ran (Some held) job plan s gives text = rw (gives, text) refl
+    → text ≡ infer_text plan
+    → IfSome told (λ held. Gives (verdict_by (Some (Infer job)) held.file) (Ok text))
+infer_ran None job plan text gives is = tt
+infer_ran (Some held) job plan text gives is = rw (gives, is) refl
 
 pub infer_against : (told : Option Held) (job : List ℕ) (c : Cause)
     → IfSome told (λ held. Gives (plan_in held.file job) (Err c))
-    → IfSome told (λ held. GivesText (verdict_by (Some (Infer job)) held.file) (Err c))
+    → IfSome told (λ held. Gives (verdict_by (Some (Infer job)) held.file) (Err c))
 infer_against None job c gives = tt
 infer_against (Some held) job c (inl e) = inl (rw e refl)
 infer_against (Some held) job c (inr free) = inr free
+
+-- ---- asm and list
+
+pub asm_ran : (told : Option Held) (source words text : List ℕ)
+    → IfSome told (λ held. Gives (source_in (held.file source)) (Ok words))
+    → text ≡ flat_map (spelled 4) words
+    → IfSome told (λ held. Gives (verdict_by (Some (Asm source)) held.file) (Ok text))
+asm_ran None source words text gives is = tt
+asm_ran (Some held) source words text gives is = rw (gives, is) refl
+
+pub asm_against : (told : Option Held) (source : List ℕ) (c : Cause)
+    → IfSome told (λ held. Gives (source_in (held.file source)) (Err c))
+    → IfSome told (λ held. Gives (verdict_by (Some (Asm source)) held.file) (Err c))
+asm_against None source c gives = tt
+asm_against (Some held) source c (inl e) = inl (rw e refl)
+asm_against (Some held) source c (inr free) = inr free
+
+pub list_ran : (told : Option Held) (image : List ℕ) (picture : Picture) (text : List ℕ)
+    → IfSome told (λ held. Gives (image_in (held.file image)) (Ok picture))
+    → text ≡ listing_of picture.words
+    → IfSome told (λ held. Gives (verdict_by (Some (Listing image)) held.file) (Ok text))
+list_ran None image picture text gives is = tt
+list_ran (Some held) image picture text gives is = rw (gives, is) refl
+
+pub list_against : (told : Option Held) (image : List ℕ) (c : Cause)
+    → IfSome told (λ held. Gives (image_in (held.file image)) (Err c))
+    → IfSome told (λ held. Gives (verdict_by (Some (Listing image)) held.file) (Err c))
+list_against None image c gives = tt
+list_against (Some held) image c (inl e) = inl (rw e refl)
+list_against (Some held) image c (inr free) = inr free

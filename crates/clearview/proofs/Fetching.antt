@@ -1,4 +1,4 @@
--- What the bytes of a file say of its image and its job.
+-- What the bytes of a file say of its image, its job and its source.
 use Rattle.std.proofs.Common.{◌≡◌, ℕ, List, Option, Some, None, Result, Ok, Err, IfSome, arith, inl, inr, ap, sym, refl, ◌∙◌, subst}
 use Rattle.std.proofs.lemmas.Bool.Decides.{nat_tests}
 use Rattle.cv_base.specs.Picture.{Picture}
@@ -6,10 +6,11 @@ use Rattle.cv_base.specs.PlanOf.{PlanOf}
 use Rattle.cv_edge.specs.Edge.{Held, FetchesOnce}
 use Rattle.cv_job.specs.JobOf.{JobOf, plan_of}
 use Rattle.cv_job.specs.Reading.{reading_of}
+use Rattle.cv_asm.specs.Source.{source_of}
 use Rattle.clearview.specs.declared.cause.Cause.{Cause}
 use Rattle.clearview.specs.declared.cause.Cause.TheVariants as cause
 use Rattle.clearview.specs.Gives.{Gives, bytes_in, plan_by}
-use Rattle.clearview.specs.Verdict.{image_in, image_reading, job_in, plan_in, refused}
+use Rattle.clearview.specs.Verdict.{image_in, image_reading, job_in, plan_in, refused, source_in}
 
 image_whole : (file : Option (List ℕ)) (bytes : List ℕ) → bytes_in 4194304 cause.ImageLong file ≡ Ok bytes
     → image_in file ≡ refused (λ f. cause.ImageRefused f) (image_reading bytes)
@@ -29,6 +30,15 @@ job_against : (file : Option (List ℕ)) (c : Cause) → bytes_in 16777216 cause
 job_against None c e = cc e
 job_against (Some all) c e = grind (arith, nat_tests, e)
 
+source_whole : (file : Option (List ℕ)) (bytes : List ℕ) → bytes_in 4194304 cause.AsmLong file ≡ Ok bytes
+    → source_in file ≡ refused (λ f. cause.AsmRefused f) (source_of bytes)
+source_whole None bytes e = cc e
+source_whole (Some all) bytes e = grind (arith, nat_tests, e)
+
+source_against : (file : Option (List ℕ)) (c : Cause) → bytes_in 4194304 cause.AsmLong file ≡ Err c → source_in file ≡ Err c
+source_against None c e = cc e
+source_against (Some all) c e = grind (arith, nat_tests, e)
+
 -- where the bytes are read
 pub image_read : (told : Option Held) (name bytes : List ℕ) (r : Result Picture Cause)
     → IfSome told (λ held. Gives (bytes_in 4194304 cause.ImageLong (held.file name)) (Ok bytes))
@@ -44,6 +54,13 @@ pub job_read : (told : Option Held) (name bytes : List ℕ) (r : Result JobOf Ca
 job_read None name bytes r whole gives = tt
 job_read (Some held) name bytes r whole gives = rw (job_whole (held.file name) bytes whole) gives
 
+pub source_read : (told : Option Held) (name bytes : List ℕ) (r : Result (List ℕ) Cause)
+    → IfSome told (λ held. Gives (bytes_in 4194304 cause.AsmLong (held.file name)) (Ok bytes))
+    → Gives (refused (λ f. cause.AsmRefused f) (source_of bytes)) r
+    → IfSome told (λ held. Gives (source_in (held.file name)) r)
+source_read None name bytes r whole gives = tt
+source_read (Some held) name bytes r whole gives = rw (source_whole (held.file name) bytes whole) gives
+
 -- where there are none
 pub image_unread : (told : Option Held) (name : List ℕ) (c : Cause)
     → IfSome told (λ held. Gives (bytes_in 4194304 cause.ImageLong (held.file name)) (Err c))
@@ -58,6 +75,13 @@ pub job_unread : (told : Option Held) (name : List ℕ) (c : Cause)
 job_unread None name c against = tt
 job_unread (Some held) name c (inl e) = inl (job_against (held.file name) c e)
 job_unread (Some held) name c (inr free) = inr free
+
+pub source_unread : (told : Option Held) (name : List ℕ) (c : Cause)
+    → IfSome told (λ held. Gives (bytes_in 4194304 cause.AsmLong (held.file name)) (Err c))
+    → IfSome told (λ held. Gives (source_in (held.file name)) (Err c))
+source_unread None name c against = tt
+source_unread (Some held) name c (inl e) = inl (source_against (held.file name) c e)
+source_unread (Some held) name c (inr free) = inr free
 
 -- ---- plans
 

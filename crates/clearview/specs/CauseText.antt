@@ -1,6 +1,7 @@
 -- The line on standard error that tells a cause, without its line feed (docs/FORMATS.md, "Lines on
 -- standard error").
 use Rattle.std.specs.Prelude.{ℕ, List, ◌++◌, codes}
+use Rattle.cv_asm.specs.FaultText as asm
 use Rattle.cv_base.specs.FaultText as image
 use Rattle.cv_job.specs.JobFaultText as job
 use Rattle.clearview.specs.declared.cause.Cause.{Cause}
@@ -14,6 +15,8 @@ cause_text cause.JobLong = codes "clearview: job too long"
 cause_text (cause.JobRefused f) = codes "clearview: job refused: " ++ job.fault_text f
 cause_text cause.ImageLong = codes "clearview: image too long"
 cause_text (cause.ImageRefused f) = codes "clearview: image refused: " ++ image.fault_text f
+cause_text cause.AsmLong = codes "clearview: source too long"
+cause_text (cause.AsmRefused f) = codes "clearview: source refused: " ++ asm.asm_fault_text f
 cause_text cause.NoMemory = codes "clearview: out of memory"
 cause_text cause.StoreFault = codes "clearview: cannot read"
 cause_text cause.SinkFault = codes "clearview: cannot write"

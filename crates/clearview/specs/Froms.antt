@@ -1,4 +1,6 @@
 -- The cause that a failure of a call below is.
+use Rattle.cv_asm.specs.declared.fault.AsmFail.{AsmFail}
+use Rattle.cv_asm.specs.declared.fault.AsmFail.TheVariants as asm
 use Rattle.cv_base.specs.declared.image.ImageFail.{ImageFail}
 use Rattle.cv_base.specs.declared.image.ImageFail.TheVariants as image
 use Rattle.cv_edge.specs.declared.store.FetchFail.{FetchFail}
@@ -19,3 +21,7 @@ from_image image.NoMemory = cause.NoMemory
 abbrev pub from_job : JobFail → Cause
 from_job (job.Refused fault) = cause.JobRefused fault
 from_job job.NoMemory = cause.NoMemory
+
+abbrev pub from_asm : AsmFail → Cause
+from_asm (asm.Refused fault) = cause.AsmRefused fault
+from_asm asm.NoMemory = cause.NoMemory

@@ -1,13 +1,17 @@
 -- What a command has to come to: the text to write, or the cause against it, in the order in
 -- which the causes are tested (docs/FORMATS.md, "Causes and statuses").
 use Rattle.std.specs.Prelude.{ℕ, nat_lt, if◌then◌else◌, List, [], ◌∷◌, length, take, Option, Some, None, Result, Ok, Err}
+use Rattle.std.specs.List.{flat_map}
 use Rattle.std.specs.Str.{bytes_eq}
+use Rattle.cv_asm.specs.Listing.{listing_of}
+use Rattle.cv_asm.specs.Source.{source_of}
 use Rattle.cv_base.specs.declared.image.ImageFault.{ImageFault}
 use Rattle.cv_base.specs.Picture.{Picture}
 use Rattle.cv_elf.specs.ElfReading.{elf_reading}
 use Rattle.cv_image.specs.FlatReading.{flat_reading}
 use Rattle.cv_job.specs.JobOf.{JobOf, plan_of}
 use Rattle.cv_job.specs.Reading.{reading_of}
+use Rattle.cv_mem.specs.Memory.{spelled}
 use Rattle.cv_runs.specs.PlainText.{plain_text}
 use Rattle.cv_base.specs.PlanOf.{PlanOf}
 use Rattle.cv_base.specs.declared.entries.Entry.{Entry}
@@ -18,7 +22,7 @@ use Rattle.cv_histories.specs.Serial.{serial}
 use Rattle.clearview.specs.CheckText.{check_text}
 use Rattle.clearview.specs.declared.cause.Cause.{Cause}
 use Rattle.clearview.specs.declared.cause.Cause.TheVariants as cause
-use Rattle.clearview.specs.Words.{Command, Plain, Check, Infer, Run, Drill, command_of}
+use Rattle.clearview.specs.Words.{Command, Plain, Check, Infer, Run, Drill, Asm, Listing, command_of}
 
 abbrev pub Verdict : Type 0
 Verdict = Result (List ℕ) Cause
@@ -50,6 +54,13 @@ job_in None = Err cause.FileMissing
 job_in (Some bytes) =
     if nat_lt 16777216 (length bytes) then Err cause.JobLong
     else refused (λ f. cause.JobRefused f) (reading_of bytes)
+
+-- the words of the source that a file holds
+abbrev pub source_in : Option (List ℕ) → Result (List ℕ) Cause
+source_in None = Err cause.FileMissing
+source_in (Some bytes) =
+    if nat_lt 4194304 (length bytes) then Err cause.AsmLong
+    else refused (λ f. cause.AsmRefused f) (source_of bytes)
 
 -- the plan of a job's file and its image's file
 abbrev pub plan_in : (List ℕ → Option (List ℕ)) → List ℕ → Result PlanOf Cause
@@ -87,6 +98,9 @@ verdict_by (Some (Check job)) file = and_then (plan_in file job) (λ (plan : Pla
 verdict_by (Some (Infer job)) file = and_then (plan_in file job) (λ (plan : PlanOf). Ok (infer_text plan))
 verdict_by (Some (Run job)) file = and_then (plan_in file job) (λ (plan : PlanOf). Ok (report plan (serial plan)))
 verdict_by (Some (Drill number runs)) file = Ok (drill_text (drilled number runs) (serial (drilled number runs)))
+verdict_by (Some (Asm source)) file = and_then (source_in (file source)) (λ words. Ok (flat_map (spelled 4) words))
+verdict_by (Some (Listing image)) file =
+    and_then (image_in (file image)) (λ (picture : Picture). Ok (listing_of picture.words))
 
 abbrev pub verdict_of : List (List ℕ) → (List ℕ → Option (List ℕ)) → Verdict
 verdict_of words file = verdict_by (command_of words) file

@@ -3,12 +3,14 @@ use Rattle.clearview.specs.declared.words.Command.{Command as Reading}
 use Rattle.clearview.specs.declared.words.Command.TheVariants as reading
 use Rattle.clearview.specs.declared.words.Order.{Order}
 use Rattle.clearview.specs.declared.words.Order.TheVariants as order
-use Rattle.clearview.specs.Words.{Command, Plain, Check, Infer, Run, Drill}
+use Rattle.clearview.specs.Words.{Command, Plain, Check, Infer, Run, Drill, Asm, Listing}
 
 abbrev pub command_view : Reading → Command
 command_view (reading.Plain image budget input) = Plain image.now budget input
 command_view (reading.Check job) = Check job.now
 command_view (reading.Infer job) = Infer job.now
+command_view (reading.Asm source) = Asm source.now
+command_view (reading.Listing image) = Listing image.now
 
 abbrev pub order_view : Order → Command
 order_view (order.Run job) = Run job.now

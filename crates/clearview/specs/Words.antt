@@ -12,6 +12,8 @@ pub data Command : Type 0 where
   Infer : List ℕ → Command  -- job's name
   Run : List ℕ → Command  -- job's name
   Drill : ℕ → ℕ → Command  -- number, runs
+  Asm : List ℕ → Command  -- source's name
+  Listing : List ℕ → Command  -- image's name
 
 -- a file's name: not empty, and does not begin with `-`
 abbrev pub is_name : List ℕ → Bool
@@ -44,13 +46,15 @@ plain_of image budget input =
     then option_and_then (λ n. option_map (λ bytes. Plain image n bytes) (input_of input)) (budget_of budget)
     else None
 
--- the commands on a job
-abbrev pub job_command : List ℕ → List ℕ → Option Command
-job_command name job =
-    if not (is_name job) then None
-    else if bytes_eq name (codes "check") then Some (Check job)
-    else if bytes_eq name (codes "infer") then Some (Infer job)
-    else if bytes_eq name (codes "run") then Some (Run job)
+-- the commands that have one word more, a file's name
+abbrev pub file_command : List ℕ → List ℕ → Option Command
+file_command name file =
+    if not (is_name file) then None
+    else if bytes_eq name (codes "check") then Some (Check file)
+    else if bytes_eq name (codes "infer") then Some (Infer file)
+    else if bytes_eq name (codes "run") then Some (Run file)
+    else if bytes_eq name (codes "asm") then Some (Asm file)
+    else if bytes_eq name (codes "list") then Some (Listing file)
     else None
 
 -- the number of a drill: 1 to 20 digits, below 2^64
@@ -69,7 +73,7 @@ abbrev pub drill_of : List ℕ → List ℕ → Option Command
 drill_of number runs = option_and_then (λ n. option_map (λ count. Drill n count) (drill_runs runs)) (drill_number number)
 
 abbrev pub command_of : List (List ℕ) → Option Command
-command_of (name ∷ job ∷ []) = job_command name job
+command_of (name ∷ file ∷ []) = file_command name file
 command_of (name ∷ number ∷ runs ∷ []) = if bytes_eq name (codes "drill") then drill_of number runs else None
 command_of (name ∷ image ∷ budget ∷ input ∷ []) = if bytes_eq name (codes "plain") then plain_of image budget input else None
 command_of _ = None
@@ -82,6 +86,8 @@ files_named (Some (Check job)) = 2
 files_named (Some (Infer job)) = 2
 files_named (Some (Run job)) = 2
 files_named (Some (Drill number runs)) = 0
+files_named (Some (Asm source)) = 1
+files_named (Some (Listing image)) = 1
 
 -- an input has at most 65,536 bytes, and a drill 1 to 1,022 live runs
 abbrev pub IsShort : Command → Type 0
@@ -90,6 +96,8 @@ IsShort (Check job) = Unit {0}
 IsShort (Infer job) = Unit {0}
 IsShort (Run job) = Unit {0}
 IsShort (Drill number runs) = (1 ≤ runs) × (runs ≤ 1022)
+IsShort (Asm source) = Unit {0}
+IsShort (Listing image) = Unit {0}
 
 -- whether the runs of a command are posted to a book
 abbrev pub keeps_book : Option Command → Bool

@@ -1,6 +1,7 @@
 ghost use Rattle.std.specs.Prelude.{◌≡◌};
 ghost use Rattle.clearview.specs.Causes.{status_of};
 
+use cv_asm::{AsmFail, AsmFault};
 use cv_base::{ImageFail, ImageFault, NoMemory};
 use cv_core::Book;
 use cv_edge::FetchFail;
@@ -24,6 +25,10 @@ pub enum Cause {
     ImageLong,
     /// The image's file is no image: the first fault.
     ImageRefused(ImageFault),
+    /// The source's file has more than 4,194,304 bytes.
+    AsmLong,
+    /// The source is refused: the fault of its first faulty line.
+    AsmRefused(AsmFault),
     /// Memory was refused.
     NoMemory,
     /// The store failed.
@@ -43,6 +48,7 @@ impl Cause {
             Cause::FileMissing => 12,
             Cause::JobLong | Cause::JobRefused(_) => 3,
             Cause::ImageLong | Cause::ImageRefused(_) => 4,
+            Cause::AsmLong | Cause::AsmRefused(_) => 8,
             Cause::NoMemory => 5,
             Cause::StoreFault => 6,
             Cause::SinkFault => 7,
@@ -74,6 +80,8 @@ impl fmt::Display for Cause {
             Cause::JobRefused(fault) => write!(f, "clearview: job refused: {fault}"),
             Cause::ImageLong => write!(f, "clearview: image too long"),
             Cause::ImageRefused(fault) => write!(f, "clearview: image refused: {fault}"),
+            Cause::AsmLong => write!(f, "clearview: source too long"),
+            Cause::AsmRefused(fault) => write!(f, "clearview: source refused: {fault}"),
             Cause::NoMemory => write!(f, "clearview: out of memory"),
             Cause::StoreFault => write!(f, "clearview: cannot read"),
             Cause::SinkFault => write!(f, "clearview: cannot write"),
@@ -130,6 +138,20 @@ impl From<JobFail> for Cause {
         match error {
             JobFail::Refused(fault) => Cause::JobRefused(fault),
             JobFail::NoMemory => Cause::NoMemory,
+        }
+    }
+}
+
+impl From<AsmFail> for Cause {
+    ghost use Rattle.std.specs.Prelude.{◌≡◌};
+    ghost use Rattle.clearview.specs.Froms.{from_asm};
+
+    ghost from_gives = { λ e r. r ≡ from_asm e };
+
+    fn from(error: AsmFail) -> Cause {
+        match error {
+            AsmFail::Refused(fault) => Cause::AsmRefused(fault),
+            AsmFail::NoMemory => Cause::NoMemory,
         }
     }
 }

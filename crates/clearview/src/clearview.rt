@@ -71,7 +71,7 @@ fn run<S: Store, K: Sink>(alloc: Global, order: &Order<'_>, store: &mut S, sink:
 {
     match run_with(alloc, order, store) {
         Ok((book, text)) => {
-            let cause = written(sink, text.as_str());
+            let cause = written(sink, text.as_bytes());
             Finish {
                 status: cause.status(),
                 cause,

@@ -1,10 +1,12 @@
-ghost use Rattle.std.specs.Prelude.{◌≡◌, ◌≢◌, IfErr, IfSome, IsErrOf};
+ghost use Rattle.std.specs.Prelude.{◌≡◌, ◌≢◌, ◌≤◌, length, IfErr, IfOk, IfSome, IsErrOf};
+ghost use Rattle.cv_asm.specs.Source.{source_of};
 ghost use Rattle.cv_edge.specs.Edge.{FetchesOnce, FetchesUpTo, HasCause};
 ghost use Rattle.clearview.specs.Gives.{Gives, IsEarly, bytes_in, plan_by};
-ghost use Rattle.clearview.specs.Verdict.{image_in, image_reading, job_in, plan_in, refused};
+ghost use Rattle.clearview.specs.Verdict.{image_in, image_reading, job_in, plan_in, refused, source_in};
 ghost use Rattle.clearview.specs.declared.cause.Cause.TheVariants as cause;
 
 use crate::cause::Cause;
+use cv_asm::assemble;
 use cv_base::{Image, Items, Plan};
 use cv_edge::{Fetched, Store};
 use cv_elf::elf;
@@ -17,6 +19,9 @@ const IMAGE_LIMIT: u32 = 4_194_304;
 
 /// The most bytes that a job's file may have.
 const JOB_LIMIT: u32 = 16_777_216;
+
+/// The most bytes that a source's file may have.
+const SOURCE_LIMIT: u32 = 4_194_304;
 
 /// The plan of the job that a file holds, with the image that the job names, or the cause against
 /// it (docs/FORMATS.md, "Causes and statuses"). It fetches the job, and then the image.
@@ -69,6 +74,19 @@ pub fn job_of<S: Store>(alloc: Global, store: &mut S, name: &str) -> Result<Job,
     Ok(read_job(alloc, bytes.as_slice())?)
 }
 
+/// The words of the source that a file holds, or the cause against them (docs/FORMATS.md, "Causes
+/// and statuses"). It fetches once.
+#[tactic(auto, using(crate::proofs::Fetching::source_read, crate::proofs::Fetching::source_unread))]
+pub fn source_words<S: Store>(alloc: Global, store: &mut S, name: &str) -> Result<Items<u32>, Cause>
+    ensures gives { IfSome (S.told store.old) (λ held. Gives (source_in (held.file name.now)) result) }
+    ensures early { IfErr result IsEarly }
+    ensures fault { HasCause (S.faults store.old) (S.faults store.new) (IsErrOf result Cause.StoreFault) }
+    ensures fetches { FetchesOnce (S.told store.old) (S.told store.new) }
+{
+    let bytes = bytes_of(alloc, store, name, SOURCE_LIMIT, Cause::AsmLong)?;
+    read_source(alloc, bytes.as_slice())
+}
+
 /// The bytes of a file, or the cause against them: `longer` where there are more than `limit`.
 fn bytes_of<S: Store>(
     alloc: Global,
@@ -80,6 +98,7 @@ fn bytes_of<S: Store>(
     requires early { IsEarly longer }
     requires refusal { longer ≢ Cause.StoreFault }
     ensures gives { IfSome (S.told store.old) (λ held. Gives (bytes_in limit longer (held.file name.now)) result) }
+    ensures few { IfOk result (λ bytes. length bytes ≤ limit) }
     ensures early { IfErr result IsEarly }
     ensures fault { HasCause (S.faults store.old) (S.faults store.new) (IsErrOf result Cause.StoreFault) }
     ensures fetches { FetchesOnce (S.told store.old) (S.told store.new) }
@@ -103,4 +122,15 @@ fn read_image(alloc: Global, bytes: &[u8]) -> Result<Image, Cause>
     } else {
         Ok(flat(alloc, bytes)?)
     }
+}
+
+/// The words of a source, or why it is refused.
+fn read_source(alloc: Global, text: &[u8]) -> Result<Items<u32>, Cause>
+    requires { length text.now ≤ 4194304 }
+    ensures gives { Gives (refused (λ f. Cause.AsmRefused f) (source_of text.now)) result }
+    ensures early { IfErr result IsEarly }
+    ensures refusal { IfErr result (λ c. c ≢ Cause.StoreFault) }
+{
+    let words = assemble(alloc, text)?;
+    Ok(Items::from_vec(words))
 }

@@ -3,10 +3,12 @@
 //! (docs/FORMATS.md).
 #![tactic(auto)]
 
+mod asm;
 mod cause;
 mod clearview;
 mod files;
 mod infer;
+mod list;
 mod plain;
 #[cfg(test)]
 mod tests;

@@ -4,7 +4,7 @@ ghost use Rattle.cv_base.specs.EndText.{end_text};
 ghost use Rattle.cv_runs.specs.PlainText.{bytes_text};
 ghost use Rattle.clearview.specs.CheckText.{check_text, text_line};
 
-use cv_base::{Address, End, Image, NoMemory, Plan};
+use cv_base::{Address, End, Image, Items, NoMemory, Plan};
 use cv_job::job_line;
 use cv_report::bytes_text;
 use std::alloc::Global;
@@ -33,4 +33,11 @@ pub fn run_text(alloc: Global, end: End, turns: u32, output: &[u8]) -> Result<St
 {
     let output = bytes_text(alloc, output)?;
     Ok(format!(in alloc; "end {end}\nturns {turns}\noutput {output}\n")?)
+}
+
+/// The bytes of a text.
+pub fn in_bytes(text: String) -> Items<u8>
+    ensures { result ≡ string_bytes text }
+{
+    Items::from_vec(text.into_bytes())
 }

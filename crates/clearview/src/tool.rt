@@ -1,17 +1,20 @@
 ghost use Rattle.std.specs.Prelude.{◌≡◌, ◌≢◌, ◌⊎◌, ◌↔◌, ◌≤◌, Ok, Some, None, false, length, map, string_bytes, IfErr, IfSome, IsErrOf};
 ghost use Rattle.cv_edge.specs.Edge.{FetchesOnce, FetchesUpTo, HasCause, Rose};
 ghost use Rattle.clearview.specs.Causes.{status_of, Completes, Ends, Writes, Silent};
-ghost use Rattle.clearview.specs.Gives.{GivesText, IsEarly};
+ghost use Rattle.clearview.specs.Gives.{Gives, IsEarly};
 ghost use Rattle.clearview.specs.Verdict.{verdict_of, verdict_by};
 ghost use Rattle.clearview.specs.Views.{command_view};
 ghost use Rattle.clearview.specs.Words.{command_of, files_named, keeps_book, IsShort, Plain, Check, Infer};
 
+use crate::asm::asm;
 use crate::cause::{Cause, Finish};
 use crate::files::{image_of, plan_of};
 use crate::infer::infer_text;
+use crate::list::list;
 use crate::plain::plain_text;
-use crate::texts::check_text;
+use crate::texts::{check_text, in_bytes};
 use crate::words::{Command, read};
+use cv_base::Items;
 use cv_edge::{Failed, Sink, Store, write_all};
 use std::alloc::Global;
 
@@ -36,7 +39,7 @@ pub fn tool<S: Store, K: Sink>(
     ensures fetches { FetchesUpTo (files_named (command_of (map string_bytes words.now))) (S.told store.old) (S.told store.new) }
 {
     let cause = match text_of(alloc, words, store) {
-        Ok(text) => written(sink, text.as_str()),
+        Ok(text) => written(sink, text.as_slice()),
         Err(cause) => cause,
     };
     Finish {
@@ -47,12 +50,12 @@ pub fn tool<S: Store, K: Sink>(
 }
 
 /// Writes a text whole: Done, or SinkFault where the sink failed.
-pub(crate) fn written<K: Sink>(sink: &mut K, text: &str) -> Cause
+pub(crate) fn written<K: Sink>(sink: &mut K, text: &[u8]) -> Cause
     ensures ends { (result ≡ Cause.Done) ⊎ (result ≡ Cause.SinkFault) }
     ensures writes { Writes (Ok text.now) result (K.written sink.old) (K.written sink.new) }
     ensures fault { HasCause (K.faults sink.old) (K.faults sink.new) (result ≡ Cause.SinkFault) }
 {
-    match write_all(sink, text.as_bytes()) {
+    match write_all(sink, text) {
         Ok(()) => Cause::Done,
         Err(Failed) => Cause::SinkFault,
     }
@@ -60,9 +63,9 @@ pub(crate) fn written<K: Sink>(sink: &mut K, text: &str) -> Cause
 
 /// The text of the command that words are, or the cause against it.
 #[tactic(auto, using(crate::proofs::Commands::fetches_none))]
-fn text_of<S: Store>(alloc: Global, words: &[String], store: &mut S) -> Result<String, Cause>
+fn text_of<S: Store>(alloc: Global, words: &[String], store: &mut S) -> Result<Items<u8>, Cause>
     requires { keeps_book (command_of (map string_bytes words.now)) ≡ false }
-    ensures gives { IfSome (S.told store.old) (λ held. GivesText (verdict_of (map string_bytes words.now) held.file) result) }
+    ensures gives { IfSome (S.told store.old) (λ held. Gives (verdict_of (map string_bytes words.now) held.file) result) }
     ensures usage { IsErrOf result Cause.Usage ↔ (command_of (map string_bytes words.now) ≡ None) }
     ensures done { IfErr result (λ c. (c ≢ Cause.Done) × (c ≢ Cause.SinkFault)) }
     ensures fault { HasCause (S.faults store.old) (S.faults store.new) (IsErrOf result Cause.StoreFault) }
@@ -79,9 +82,9 @@ fn command_text<S: Store>(
     alloc: Global,
     command: &Command<'_>,
     store: &mut S,
-) -> Result<String, Cause>
+) -> Result<Items<u8>, Cause>
     requires { IsShort (command_view command.now) }
-    ensures gives { IfSome (S.told store.old) (λ held. GivesText (verdict_by (Some (command_view command.now)) held.file) result) }
+    ensures gives { IfSome (S.told store.old) (λ held. Gives (verdict_by (Some (command_view command.now)) held.file) result) }
     ensures early { IfErr result IsEarly }
     ensures fault { HasCause (S.faults store.old) (S.faults store.new) (IsErrOf result Cause.StoreFault) }
     ensures fetches { FetchesUpTo (files_named (Some (command_view command.now))) (S.told store.old) (S.told store.new) }
@@ -94,6 +97,8 @@ fn command_text<S: Store>(
         } => plain(alloc, store, image, *budget, input.as_slice()),
         Command::Check { job } => check(alloc, store, job),
         Command::Infer { job } => infer(alloc, store, job),
+        Command::Asm { source } => asm(alloc, store, source),
+        Command::Listing { image } => list(alloc, store, image),
     }
 }
 
@@ -104,35 +109,38 @@ fn plain<S: Store>(
     image: &str,
     budget: u32,
     input: &[u8],
-) -> Result<String, Cause>
+) -> Result<Items<u8>, Cause>
     requires { length input.now ≤ 65536 }
-    ensures gives { IfSome (S.told store.old) (λ held. GivesText (verdict_by (Some (Plain image.now budget input.now)) held.file) result) }
+    ensures gives { IfSome (S.told store.old) (λ held. Gives (verdict_by (Some (Plain image.now budget input.now)) held.file) result) }
     ensures early { IfErr result IsEarly }
     ensures fault { HasCause (S.faults store.old) (S.faults store.new) (IsErrOf result Cause.StoreFault) }
     ensures fetches { FetchesOnce (S.told store.old) (S.told store.new) }
 {
     let image = image_of(alloc, store, image)?;
-    Ok(plain_text(alloc, &image, input, budget)?)
+    let text = plain_text(alloc, &image, input, budget)?;
+    Ok(in_bytes(text))
 }
 
 #[tactic(auto, using(crate::proofs::Commands::check_ran, crate::proofs::Commands::check_against))]
-fn check<S: Store>(alloc: Global, store: &mut S, job: &str) -> Result<String, Cause>
-    ensures gives { IfSome (S.told store.old) (λ held. GivesText (verdict_by (Some (Check job.now)) held.file) result) }
+fn check<S: Store>(alloc: Global, store: &mut S, job: &str) -> Result<Items<u8>, Cause>
+    ensures gives { IfSome (S.told store.old) (λ held. Gives (verdict_by (Some (Check job.now)) held.file) result) }
     ensures early { IfErr result IsEarly }
     ensures fault { HasCause (S.faults store.old) (S.faults store.new) (IsErrOf result Cause.StoreFault) }
     ensures fetches { FetchesUpTo 2 (S.told store.old) (S.told store.new) }
 {
     let plan = plan_of(alloc, store, job)?;
-    Ok(check_text(alloc, &plan)?)
+    let text = check_text(alloc, &plan)?;
+    Ok(in_bytes(text))
 }
 
 #[tactic(auto, using(crate::proofs::Commands::infer_ran, crate::proofs::Commands::infer_against))]
-fn infer<S: Store>(alloc: Global, store: &mut S, job: &str) -> Result<String, Cause>
-    ensures gives { IfSome (S.told store.old) (λ held. GivesText (verdict_by (Some (Infer job.now)) held.file) result) }
+fn infer<S: Store>(alloc: Global, store: &mut S, job: &str) -> Result<Items<u8>, Cause>
+    ensures gives { IfSome (S.told store.old) (λ held. Gives (verdict_by (Some (Infer job.now)) held.file) result) }
     ensures early { IfErr result IsEarly }
     ensures fault { HasCause (S.faults store.old) (S.faults store.new) (IsErrOf result Cause.StoreFault) }
     ensures fetches { FetchesUpTo 2 (S.told store.old) (S.told store.new) }
 {
     let plan = plan_of(alloc, store, job)?;
-    Ok(infer_text(alloc, &plan)?)
+    let text = infer_text(alloc, &plan)?;
+    Ok(in_bytes(text))
 }

@@ -2,7 +2,7 @@ ghost use Rattle.std.specs.Prelude.{◌≡◌, ◌≤◌, ◌^◌, ◌&&◌, ℕ
 ghost use Rattle.std.specs.Char.{is_ascii_hexdigit};
 ghost use Rattle.std.specs.List.{list_all};
 ghost use Rattle.std.specs.Option.{option_map};
-ghost use Rattle.clearview.specs.Words.{command_of, IsShort, job_command, plain_of, is_digit, is_name, number_from, budget_of, input_of, drill_number, drill_of, drill_runs, keeps_book};
+ghost use Rattle.clearview.specs.Words.{command_of, IsShort, file_command, plain_of, is_digit, is_name, number_from, budget_of, input_of, drill_number, drill_of, drill_runs, keeps_book};
 ghost use Rattle.clearview.specs.Views.{command_view, order_view};
 
 use cv_base::{Items, NoMemory};
@@ -35,6 +35,14 @@ pub enum Command<'a> {
     /// To learn from a job's learn runs.
     Infer {
         job: &'a str,
+    },
+    /// To make a flat image of a source of assembly.
+    Asm {
+        source: &'a str,
+    },
+    /// To list the words of an image's text.
+    Listing {
+        image: &'a str,
     },
 }
 
@@ -85,7 +93,7 @@ pub fn read<'a>(alloc: Global, words: &'a [String]) -> Result<Option<Command<'a>
     ensures memory { IsErr result → IsSome (command_of (map string_bytes words.now)) }
 {
     match words {
-        [name, job] => Ok(job_command(name.as_str(), job.as_str())),
+        [name, file] => Ok(file_command(name.as_str(), file.as_str())),
         [name, image, budget, input] => {
             if name.as_str() == "plain" {
                 return read_plain(alloc, image.as_str(), budget.as_str(), input.as_str());
@@ -96,17 +104,20 @@ pub fn read<'a>(alloc: Global, words: &'a [String]) -> Result<Option<Command<'a>
     }
 }
 
-fn job_command<'a>(name: &str, job: &'a str) -> Option<Command<'a>>
-    requires { keeps_book (job_command name.now job.now) ≡ false }
-    ensures value { option_map command_view result ≡ job_command name.now job.now }
+/// The command on one file.
+fn file_command<'a>(name: &str, file: &'a str) -> Option<Command<'a>>
+    requires { keeps_book (file_command name.now file.now) ≡ false }
+    ensures value { option_map command_view result ≡ file_command name.now file.now }
     ensures short { IfSome result (λ c. IsShort (command_view c)) }
 {
-    if !is_name(job) {
+    if !is_name(file) {
         return None;
     }
     match name {
-        "check" => Some(Command::Check { job }),
-        "infer" => Some(Command::Infer { job }),
+        "check" => Some(Command::Check { job: file }),
+        "infer" => Some(Command::Infer { job: file }),
+        "asm" => Some(Command::Asm { source: file }),
+        "list" => Some(Command::Listing { image: file }),
         _ => None,
     }
 }

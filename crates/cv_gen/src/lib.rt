@@ -7,6 +7,7 @@ mod planning;
 mod program;
 
 pub use planning::drill_plan;
+pub use program::spelled;
 
 #[cfg(test)]
 mod tests;

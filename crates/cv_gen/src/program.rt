@@ -52,7 +52,7 @@ pub fn calling_image(alloc: Global) -> Result<Image, NoMemory>
 }
 
 /// The bytes that spell words, the lowest byte of each first.
-fn spelled(alloc: Global, words: &[u32]) -> Result<Items<u8>, NoMemory>
+pub fn spelled(alloc: Global, words: &[u32]) -> Result<Items<u8>, NoMemory>
     ensures { IfOk result (λ bytes. bytes ≡ flat_map (spelled 4) words.now) }
 {
     let mut bytes = Vec::new(alloc);
