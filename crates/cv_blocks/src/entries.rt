@@ -1,4 +1,4 @@
-ghost use Rattle.std.specs.Prelude.{◌≡◌, None};
+ghost use Rattle.std.specs.Prelude.{◌≡◌, ◌≤◌, ◌+◌, ℕ, None, option_map, IfSome};
 ghost use Rattle.cv_runs.specs.BlockEntries.{is_entry, since_next};
 
 use std::marker::Model;
@@ -42,5 +42,27 @@ impl EntryRule {
         };
         self.since = Some(since);
         entry
+    }
+
+    /// How many turns may follow of which none but the last is a transfer, and no block entry comes
+    /// before the last: from 1 to 64, and 0 before the first turn.
+    pub fn room(&self) -> u32
+        ensures some { IfSome self.now (λ since. since + result ≡ 65) }
+        ensures few { result ≤ 65 }
+    {
+        match self.since {
+            Some(since) => 65 - u32::from(since),
+            None => 0,
+        }
+    }
+
+    /// Goes on over turns that are no transfers, where no block entry comes behind any of them.
+    pub fn pass(&mut self, turns: u32)
+        requires { IfSome self.old (λ since. since + turns ≤ 64) }
+        ensures { self.new ≡ option_map (λ (since : ℕ). since + turns) self.old }
+    {
+        if let Some(since) = self.since {
+            self.since = Some(since + turns as u8);
+        }
     }
 }

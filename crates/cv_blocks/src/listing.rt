@@ -107,6 +107,15 @@ impl Listing {
         ((point - self.text_base) / 4) as usize
     }
 
+    /// The point at a place among the words.
+    pub(crate) fn point(&self, place: usize) -> u32
+        requires { place < length self.now.words }
+        ensures address { result ≡ self.now.text_base + 4 * place }
+        ensures point { IsTrue (is_point self.now result) }
+    {
+        self.base() + 4 * place as u32
+    }
+
     /// The instruction at a point; `None` where its word is none.
     pub(crate) fn inst(&self, point: u32) -> Option<Inst>
         requires { IsTrue (is_point self.now point) }

@@ -1,4 +1,4 @@
-ghost use Rattle.std.specs.Prelude.{◌≡◌, ℕ, length, IfOk, IsTrue};
+ghost use Rattle.std.specs.Prelude.{◌≡◌, ◌<◌, ◌+◌, ◌*◌, ℕ, length, IfOk, IsTrue};
 ghost use Rattle.cv_base.specs.Picture.{is_point};
 ghost use Rattle.cv_isa.specs.Uses.{has, members_of};
 ghost use Rattle.cv_runs.specs.Text.{inst_at, reads, reads_at, window_registers, proc_of, proc_end};
@@ -79,6 +79,31 @@ impl TextMap {
         ensures { result ≡ is_point self.now addr }
     {
         self.range().is_point(addr)
+    }
+
+    /// The number of words.
+    pub fn count(&self) -> usize
+        ensures { result ≡ length self.now.words }
+    {
+        self.listing.count() as usize
+    }
+
+    /// The place of a point among the words.
+    pub fn place(&self, point: u32) -> usize
+        requires { IsTrue (is_point self.now point) }
+        ensures within { result < length self.now.words }
+        ensures address { self.now.text_base + 4 * result ≡ point }
+    {
+        self.listing.place(point)
+    }
+
+    /// The point at a place among the words.
+    pub fn point(&self, place: usize) -> u32
+        requires { place < length self.now.words }
+        ensures address { result ≡ self.now.text_base + 4 * place }
+        ensures point { IsTrue (is_point self.now result) }
+    {
+        self.listing.point(place)
     }
 
     /// The instruction at a point; `None` where its word is none.

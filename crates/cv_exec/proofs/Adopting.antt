@@ -78,6 +78,25 @@ unknown_with version table (Some s) above is = (above, unknown_by version table 
 pub again : (version : ℕ) (table : Table) (spans : List Span) → IsNotBelow version (last_span spans) → table_if version (last_span spans) ≡ Some table → MayAdopt version table spans
 again version table spans above is = may_adopt_last version table spans (known_with version table (last_span spans) above is)
 
+-- the version that was adopted last, by its number
+last_by : (version : ℕ) (s : Span) (b : Bool) → (s.version == version) ≡ b → b ≡ true → (if b then Some s.table else None) ≡ Some s.table
+last_by version s true test is = refl
+last_by version s false test is = cc
+
+last_with : (version : ℕ) (o : Option Span) → is_of_version version o ≡ true → (IsNotBelow version o) × (table_if version o ≡ Some (table_in o))
+last_with version None is = cc
+last_with version (Some s) is =
+    let same = same_if s.version version is in
+    (omega arith, last_by version s (s.version == version) refl is)
+
+pub may_again : (version : ℕ) (spans : List Span) → is_of_version version (last_span spans) ≡ true → MayAdopt version (last_table spans) spans
+may_again version spans is =
+    let known = last_with version (last_span spans) is in
+    again version (last_table spans) spans known.0 known.1
+
+pub table_again : (version : ℕ) (spans : List Span) → is_of_version version (last_span spans) ≡ true → table_if version (last_span spans) ≡ Some (last_table spans)
+table_again version spans is = (last_with version (last_span spans) is).1
+
 -- another version comes, with any table
 pub anew : (version : ℕ) (table : Table) (spans : List Span) → IsNotBelow version (last_span spans) → table_if version (last_span spans) ≡ None → MayAdopt version table spans
 anew version table spans above is = may_adopt_last version table spans (unknown_with version table (last_span spans) above is)

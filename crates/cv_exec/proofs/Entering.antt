@@ -1,6 +1,6 @@
 -- A started live run that wants a block entry, and what becomes of it.
 use Rattle.std.proofs.Common.{◌≡◌, ◌<◌, ◌≤◌, ◌+◌, ℕ, suc, Bool, true, false, List, [], ◌∷◌, ◌++◌, length, Option, Some, None, Result, Ok, Err, refl, sym, ap, ◌∙◌, subst, arith, length-append}
-use Rattle.std.specs.Prelude.{◌&&◌, not, is_some, if◌then◌else◌, option_map, reverse, OnOk, OnErr}
+use Rattle.std.specs.Prelude.{◌&&◌, not, is_some, if◌then◌else◌, option_map, OnOk, OnErr}
 use Rattle.std.proofs.lemmas.List.{reverse-append}
 use Rattle.std.proofs.lemmas.Result.{on_ok_weaker}
 use Rattle.cv_base.specs.declared.ends.End.{End}
@@ -11,15 +11,14 @@ use Rattle.cv_exec.specs.ArenaStands.{GoesOn, IsStarted, Keeps, Leaves, Marks, S
 use Rattle.cv_exec.specs.declared.flying.Flying.TheVariants.{Living}
 use Rattle.cv_exec.specs.declared.flying.Started.{Started}
 use Rattle.cv_exec.specs.declared.patched.Patched.{Patched}
-use Rattle.cv_exec.specs.LiveRun.{MayAdopt, Span, adoptions_of, one_entry_more, rows_of}
-use Rattle.cv_exec.specs.Keeping.{IsEntered, IsKept, IsReady, IsRefused, last_table, wants_by}
-use Rattle.cv_exec.proofs.Adopting.{adoptions_more, joined_more, last_more, rises_more, some_last, written_more}
+use Rattle.cv_exec.specs.LiveRun.{MayAdopt, Span, adoptions_of, rows_of}
+use Rattle.cv_exec.specs.Keeping.{IsEntered, IsKept, IsReady, IsRefused, is_of_version, last_span, last_table, wants_by}
+use Rattle.cv_exec.proofs.Adopting.{adoptions_more, joined_more, last_more, may_again, rises_more, some_last, written_more}
 use Rattle.cv_exec.proofs.Recipe.{adopt_more, and_false}
 use Rattle.cv_exec.proofs.Standing.{flight_is, live_entry_is, over, wants_entry_in}
 use Rattle.cv_exec.proofs.Turned.{going}
-use Rattle.cv_histories.specs.Flight.{Flight, begun, done_in, entered, flown, may_enter}
+use Rattle.cv_histories.specs.Flight.{begun, done_in, entered, flown, may_enter}
 use Rattle.cv_histories.specs.Rows.{checks_in, firings_in, written}
-use Rattle.cv_histories.specs.Runs.{Run, run_at}
 use Rattle.cv_machine.specs.Held.{Held}
 use Rattle.cv_observe.specs.StandsFor.{SummaryOf}
 use Rattle.cv_runs.specs.BlockEntries.{since_next}
@@ -199,3 +198,16 @@ module _ (plan : PlanOf) (m : Held) (summary : SummaryOf) (g : Started) (p : Pat
 
     pub closed_entered : (result : Result (Unit {0}) NoMemory) → OnOk result (IsEntered version table p q) → OnOk result (wants plan (Some (going_with g q.spans.items)) ≡ false)
     closed_entered result ok = on_ok_weaker result closed_by ok
+
+  -- ---- the version that was adopted last, once more
+
+  module _ (version : ℕ) (q : Patched) where
+    pub stands_again : (answer : Bool) → (answer ≡ true → is_of_version version (last_span p.spans.items) ≡ true) → (answer ≡ true → IsEntered version (last_table p.spans.items) p q) → (answer ≡ false → q ≡ p) → IsStarted plan m summary (Some q) q.spans.items g
+    stands_again true known entry same = after_entry version (last_table p.spans.items) (may_again version p.spans.items (known refl)) q (entry refl)
+    stands_again false known entry same = rw (same refl) r
+
+    pub goes_again : is_of_version version (last_span p.spans.items) ≡ true → IsEntered version (last_table p.spans.items) p q → is_over plan (Some (going_with g q.spans.items)) ≡ false
+    goes_again known entry = goes_by version (last_table p.spans.items) (may_again version p.spans.items known) q entry
+
+    pub closed_again : is_of_version version (last_span p.spans.items) ≡ true → IsEntered version (last_table p.spans.items) p q → wants plan (Some (going_with g q.spans.items)) ≡ false
+    closed_again known entry = closed_by version (last_table p.spans.items) (may_again version p.spans.items known) q entry

@@ -3,9 +3,11 @@ pub mod Answered
 pub mod Beginning
 pub mod Ended
 pub mod Entering
+pub mod Following
 pub mod Moves
 pub mod Notes
 pub mod Numbered
+pub mod Passing
 pub mod Patching
 pub mod Planned
 pub mod Recipe

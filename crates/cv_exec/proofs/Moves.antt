@@ -1,18 +1,17 @@
 -- A started run through one more turn.
 use Rattle.std.proofs.Common.{◌≡◌, ◌≤◌, ◌<◌, ◌+◌, ◌-◌, ℕ, suc, Bool, true, false, List, [], ◌∷◌, ◌++◌, length, Option, Some, None, refl, sym, ap, ◌∙◌, subst, arith}
-use Rattle.std.specs.Prelude.{◌&&◌, not, if◌then◌else◌, option_map, IsSome}
+use Rattle.std.specs.Prelude.{if◌then◌else◌, option_map}
 use Rattle.std.proofs.lemmas.List.{map-append}
 use Rattle.cv_base.specs.declared.ends.End.{End}
 use Rattle.cv_base.specs.declared.entries.Observation.{Observation}
 use Rattle.cv_base.specs.declared.plan.Mode.{Mode}
-use Rattle.cv_base.specs.declared.plan.Mode.TheVariants.{Learn, Live}
 use Rattle.cv_base.specs.Picture.{Picture, is_point}
 use Rattle.cv_base.specs.PlanOf.{PlanOf}
 use Rattle.cv_exec.specs.declared.flying.Started.{Started}
 use Rattle.cv_exec.specs.declared.patched.Patched.{Patched}
 use Rattle.cv_exec.specs.ArenaOf.{flight_in}
-use Rattle.cv_exec.specs.ArenaStands.{GoesOn, IsStarted, Keeps, KeepsBy, Leaves, Marks, MarksBy, StandsBy, going_with}
-use Rattle.cv_exec.specs.Keeping.{EntersAfter, IsNoted, IsReady, MayTurn, is_transfer_in, last_table, patched_state, range_of, turned_state, wants_by}
+use Rattle.cv_exec.specs.ArenaStands.{GoesOn, IsStarted, Keeps, KeepsBy, Marks, MarksBy, StandsBy, going_with}
+use Rattle.cv_exec.specs.Keeping.{EntersAfter, IsNoted, IsReady, MayTurn, indexed_table, is_transfer_in, last_table, patched_state, range_of, turned_state, wants_by}
 use Rattle.cv_exec.specs.LiveRun.{Span, adoptions_of}
 use Rattle.cv_exec.specs.RunEnds.{end_sites, end_with}
 use Rattle.cv_exec.proofs.Notes.{kept_on, up_to_more}
@@ -21,7 +20,7 @@ use Rattle.cv_exec.proofs.Recipe.{turn_more, turns}
 use Rattle.cv_exec.proofs.Standing.{flight_is, learn_no_entry, live_entry_is}
 use Rattle.cv_exec.proofs.Turned.{done_more, going, leaves_after, stands_after, steps_more}
 use Rattle.cv_histories.specs.Flight.{Flight, begun, done_in, flight_turn, flown, may_turn, turned, turned_by, turned_with}
-use Rattle.cv_histories.specs.Runs.{Run, run_at}
+use Rattle.cv_histories.specs.Runs.{Run}
 use Rattle.cv_histories.specs.Seen.{is_live}
 use Rattle.cv_machine.specs.Answers.{left_by}
 use Rattle.cv_machine.specs.Held.{Held, state_of}
@@ -201,7 +200,7 @@ module _ (plan : PlanOf) (m new : Held) (summary : SummaryOf) (g : Started) (p :
     marks_more next transfer is after =
         let marks = live_keeps.marks in
         let since : p.rule ≡ since_next (is_entry r.flight.since r.flight.transferred) r.flight.since = marks.rule ∙ ap (λ (b : Bool). since_next b r.flight.since) marks.enters in
-        let ready : IsReady q = record { tally = rw spans_kept noted.tally.ready; fired = rw spans_kept noted.fired.ready } in
+        let ready : IsReady q = record { index = ap indexed_table noted.index ∙ (marks.ready (marks.prepared still)).index ∙ ap last_table (sym spans_kept); tally = rw spans_kept noted.tally.ready; fired = rw spans_kept noted.fired.ready } in
         let one : length r.flight.steps + 1 ≡ suc (length r.flight.steps) = omega arith in
         record {
           enters = after.enters ∙ ap (λ (n : Option ℕ). is_entry n transfer) since;

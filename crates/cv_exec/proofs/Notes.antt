@@ -1,5 +1,5 @@
 -- What a live run keeps through one more turn: its notes are counted, and no count rises too high.
-use Rattle.std.proofs.Common.{◌≡◌, ◌≤◌, ℕ, Bool, true, List, [], ◌∷◌, ◌++◌, refl, sym, ap, ◌∙◌, arith}
+use Rattle.std.proofs.Common.{◌≡◌, ◌≤◌, ℕ, true, List, [], ◌∷◌, ◌++◌, ◌+◌, refl, sym, ap, ◌∙◌, subst, arith}
 use Rattle.std.specs.Prelude.{nat_le}
 use Rattle.std.proofs.lemmas.Bool.{and_from, and_parts}
 use Rattle.std.proofs.lemmas.Bool.Decides.{nat_tests}
@@ -10,7 +10,8 @@ use Rattle.cv_base.specs.declared.entries.TallyRow.{TallyRow}
 use Rattle.cv_exec.specs.declared.patched.Patched.{Patched}
 use Rattle.cv_exec.specs.Keeping.{IsKept, IsNoted, IsUpTo}
 use Rattle.cv_histories.specs.Rows.{checks_in, firings_in}
-use Rattle.cv_patch.specs.Counts.{fired_up_to, tally_up_to}
+use Rattle.cv_base.specs.declared.patches.Patch.{Patch}
+use Rattle.cv_patch.specs.Counts.{CountsChecks, CountsFirings, FiredGoesOn, TallyGoesOn, fired_ready, fired_up_to, tally_ready, tally_up_to}
 use Rattle.cv_runs.specs.Apply.{Checked, Fired, Note}
 use Rattle.cv_runs.specs.PatchedRun.{PatchedStep, notes_of}
 
@@ -52,13 +53,13 @@ kept_on done step old new kept noted =
 at_most : (a n k : ℕ) → n ≤ k → nat_le a n ≡ true → nat_le a k ≡ true
 at_most a n k more is = grind (arith, nat_tests)
 
-tally_rises : (n k : ℕ) (rows : List TallyRow) → n ≤ k → tally_up_to n rows ≡ true → tally_up_to k rows ≡ true
+pub tally_rises : (n k : ℕ) (rows : List TallyRow) → n ≤ k → tally_up_to n rows ≡ true → tally_up_to k rows ≡ true
 tally_rises n k [] more all = refl
 tally_rises n k (row ∷ rows) more all =
     let parts = and_parts (nat_le row.checks n) (tally_up_to n rows) all in
     and_from (nat_le row.checks k) (tally_up_to k rows) (at_most row.checks n k more parts.0) (tally_rises n k rows more parts.1)
 
-fired_rises : (n k : ℕ) (rows : List FiredRow) → n ≤ k → fired_up_to n rows ≡ true → fired_up_to k rows ≡ true
+pub fired_rises : (n k : ℕ) (rows : List FiredRow) → n ≤ k → fired_up_to n rows ≡ true → fired_up_to k rows ≡ true
 fired_rises n k [] more all = refl
 fired_rises n k (row ∷ rows) more all =
     let parts = and_parts (nat_le row.count n) (fired_up_to n rows) all in
@@ -66,3 +67,19 @@ fired_rises n k (row ∷ rows) more all =
 
 pub up_to_more : (n k : ℕ) (p : Patched) → n ≤ k → IsUpTo n p → IsUpTo k p
 up_to_more n k p more is = record { tally = tally_rises n k p.tally more is.tally; fired = fired_rises n k p.fired more is.fired }
+
+-- ---- rows that noted nothing
+
+pub tally_still : (table : List Patch) (rows : List TallyRow) → tally_ready table rows ≡ true → TallyGoesOn table rows rows []
+tally_still table rows ready = record {
+  counts = λ before is. subst (CountsChecks rows) (sym (append-nil before)) is;
+  ready = ready;
+  rises = λ n low. tally_rises n (n + 1) rows (omega arith) low;
+}
+
+pub fired_still : (table : List Patch) (rows : List FiredRow) → fired_ready table rows ≡ true → FiredGoesOn table rows rows []
+fired_still table rows ready = record {
+  counts = λ before is. subst (CountsFirings rows) (sym (append-nil before)) is;
+  ready = ready;
+  rises = λ n low. fired_rises n (n + 1) rows (omega arith) low;
+}

@@ -1,10 +1,8 @@
 -- What a live run keeps beside its machine: what it has adopted, where its blocks begin, and what its
 -- patches noted (docs/REPAIR.md, "Patched runs").
-use Rattle.std.specs.Prelude.{◌≡◌, ◌≤◌, ℕ, Bool, true, false, not, ◌&&◌, ◌==◌, ◌-◌, if◌then◌else◌, List, [], length, Option, Some, None, slice_get, IsSome, IsSomeAnd}
+use Rattle.std.specs.Prelude.{◌≡◌, ◌≤◌, ℕ, Bool, true, false, not, ◌&&◌, ◌==◌, ◌-◌, if◌then◌else◌, List, [], length, Option, Some, None, slice_get, IsSome}
 use Rattle.cv_base.specs.Picture.{Picture, is_point}
 use Rattle.cv_base.specs.Points.{Range}
-use Rattle.cv_base.specs.declared.plan.Mode.TheVariants.{Live}
-use Rattle.cv_base.specs.declared.plan.Mode.{Mode}
 use Rattle.cv_exec.specs.LiveRun.{Span, one_entry_more, rows_of}
 use Rattle.cv_exec.specs.declared.patched.Patched.{Patched}
 use Rattle.cv_histories.specs.Honest.{IsJoined}
@@ -33,6 +31,11 @@ table_in (Some s) = s.table
 
 abbrev pub last_table : List Span → Table
 last_table spans = table_in (last_span spans)
+
+-- the table of an index; one without a patch has none
+abbrev pub indexed_table : Option Table → Table
+indexed_table None = []
+indexed_table (Some table) = table
 
 -- whether it has this version, and its table where it has
 abbrev pub is_of_version : ℕ → Option Span → Bool
@@ -63,8 +66,9 @@ pub record IsFresh (text : Range) (p : Patched) : Type 0 where
   pub tally : p.tally ≡ []
   pub fired : p.fired ≡ []
 
--- each patch of the last table has its row
+-- each patch of the last table has its row, and the index is of that table
 pub record IsReady (p : Patched) : Type 0 where
+  pub index : indexed_table p.index ≡ last_table p.spans.items
   pub tally : tally_ready (last_table p.spans.items) p.tally ≡ true
   pub fired : fired_ready (last_table p.spans.items) p.fired ≡ true
 
@@ -134,6 +138,7 @@ pub record IsNoted (turn : PatchedTurn) (old new : Patched) : Type 0 where
   pub text : new.text ≡ old.text
   pub spans : new.spans ≡ old.spans
   pub prepared : new.prepared ≡ old.prepared
+  pub index : new.index ≡ old.index
   pub tally : TallyGoesOn (last_table old.spans.items) old.tally new.tally (checks_in turn.notes)
   pub fired : FiredGoesOn (last_table old.spans.items) old.fired new.fired (firings_in turn.notes)
 

@@ -4,6 +4,7 @@ pub mod Ending
 pub mod Keeping
 pub mod LearnRun
 pub mod LiveRun
+pub mod Passing
 pub mod PlannedRun
 pub mod RecordOf
 pub mod RunEnds

@@ -4,9 +4,10 @@ ghost use Rattle.cv_base.specs.declared.plan.Mode.TheVariants as mode;
 ghost use Rattle.cv_blocks.specs.TextMap.{text_only};
 ghost use Rattle.cv_exec.specs.ArenaOf.{adopted_in, entered, entry_of_going, flight_in, has_ended, one_more, seen_so_far, wants_entry};
 ghost use Rattle.cv_exec.specs.ArenaStands.{turns_in, with_adopted};
-ghost use Rattle.cv_exec.specs.Keeping.{IsNotBelow, last_span, table_if};
+ghost use Rattle.cv_exec.specs.Keeping.{IsNotBelow, is_of_version, last_span, last_table, table_if};
 ghost use Rattle.cv_exec.specs.LearnRun.{IsLearnRun, learn_steps, entry_by};
 ghost use Rattle.cv_exec.specs.LiveRun.{HaveTables, IsLiveRun, MayAdopt, Span, rows_of};
+ghost use Rattle.cv_exec.specs.Passing.{with_turns};
 ghost use Rattle.cv_exec.specs.RecordOf.{IsHonestUnder};
 ghost use Rattle.cv_histories.specs.Seen.{is_live, observed_of};
 ghost use Rattle.cv_histories.specs.Unfired.{SaysPlain};
@@ -283,13 +284,58 @@ impl Arena {
         let mut over = false;
         while !over {
             self.enter(alloc, adopter, watcher)?;
-            over = self.step()?;
+            over = self.go()?;
         }
         let record = self.finish(alloc)?;
         flown_is_of();
         unfired_is_plain();
         let _honest = record.entry();
         Ok(record)
+    }
+
+    /// Turns of the run that is going on, one at the least and none behind the next block entry:
+    /// whether the run has ended with the last.
+    fn go(&mut self) -> Result<bool, NoMemory>
+        requires started { IsSome self.old.going }
+        requires goes_on { has_ended self.old ≡ false }
+        requires entered { wants_entry self.old ≡ false }
+        ensures more { OnOk result (turns_in self.old.going < turns_in self.new.going) }
+        ensures turned { OnOk result (self.new.going ≡ with_turns (turns_in self.new.going) self.old.going) }
+        ensures ended { IfOk result (λ over. over ≡ has_ended self.new) }
+        ensures plan { self.new.plan ≡ self.old.plan }
+    {
+        if self.pass() {
+            return Ok(false);
+        }
+        self.step()
+    }
+
+    /// Plain turns of a live run, where no patch stands and the budget allows more: whether there
+    /// were any.
+    fn pass(&mut self) -> bool
+        requires started { IsSome self.old.going }
+        requires goes_on { has_ended self.old ≡ false }
+        requires entered { wants_entry self.old ≡ false }
+        ensures more { result ≡ true → turns_in self.old.going < turns_in self.new.going }
+        ensures turned { result ≡ true → self.new.going ≡ with_turns (turns_in self.new.going) self.old.going }
+        ensures goes_on { has_ended self.new ≡ false }
+        ensures same { result ≡ false → self.new ≡ self.old }
+        ensures plan { self.new.plan ≡ self.old.plan }
+    {
+        let budget = budget_of(self.plan.get());
+        match &mut self.flying {
+            Flying::Nothing | Flying::Learning(_) => false,
+            Flying::Living(started, patched) => {
+                let most = patched.free(self.machine.core().pc, budget - 1 - started.turns);
+                let stretch = self.machine.stretch(most);
+                if stretch.turns == 0 {
+                    return false;
+                }
+                patched.pass(stretch);
+                started.turns += stretch.turns;
+                true
+            }
+        }
     }
 
     /// Before a turn of a live run. Where it is a block entry, the watcher is told of it, and the
@@ -322,8 +368,29 @@ impl Arena {
         }
         watcher.entry(turn);
         let version = adopter.enter();
+        if self.again(version) {
+            return Ok(());
+        }
         let table = self.table_of(alloc, adopter, version)?;
         self.adopt(version, table)
+    }
+
+    /// The block entry that is wanted adopts the version that the run adopted last, where it is this
+    /// one: whether it was. It takes no memory.
+    fn again(&mut self, version: u32) -> bool
+        requires wanted { wants_entry self.old ≡ true }
+        ensures going { result ≡ true → self.new.going ≡ entered version (last_table (adopted_in self.old.going)) self.old.going }
+        ensures known { result ≡ true → is_of_version version (last_span (adopted_in self.old.going)) ≡ true }
+        ensures goes_on { result ≡ true → has_ended self.new ≡ false }
+        ensures entered { result ≡ true → wants_entry self.new ≡ false }
+        ensures same { result ≡ false → self.new ≡ self.old }
+        ensures plan { self.new.plan ≡ self.old.plan }
+    {
+        let _budget = budget_of(self.plan.get());
+        match &mut self.flying {
+            Flying::Living(_, patched) => patched.again(version),
+            Flying::Nothing | Flying::Learning(_) => unreachable!(),
+        }
     }
 
     /// The table of a version that the adopter has answered, which is asked only where the run has not

@@ -15,6 +15,3 @@ mod turns;
 pub use arena::Arena;
 pub use plans::{SharedPlan, mode_of};
 pub use record::Record;
-
-#[cfg(test)]
-mod tests;

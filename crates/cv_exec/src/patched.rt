@@ -1,20 +1,25 @@
 ghost use Rattle.std.specs.Prelude.{◌≡◌, ◌<◌, ◌≤◌, [], ℕ, List, Some, None, true, false, length, option_map, IfOk, OnOk, OnErr};
 ghost use Rattle.cv_base.specs.Picture.{is_point};
+ghost use Rattle.cv_base.specs.Points.{is_point_in};
+ghost use Rattle.cv_histories.specs.Rows.{checks_in, firings_in};
 ghost use Rattle.cv_exec.specs.Ending.{live_told};
 ghost use Rattle.cv_exec.specs.LiveRun.{MayAdopt, adoptions_of, one_entry_more, rows_of};
-ghost use Rattle.cv_exec.specs.Keeping.{EntersAfter, IsEntered, IsFresh, IsKept, IsNoted, IsReady, IsRefused, KeepsCounts, MayTurn, is_of_version, is_transfer_in, last_span, last_table, left_now, state_then, table_if, turn_now, wants_by};
+ghost use Rattle.cv_exec.specs.Keeping.{EntersAfter, IsEntered, IsFresh, IsKept, IsNoted, IsReady, IsRefused, KeepsCounts, MayTurn, indexed_table, is_of_version, is_transfer_in, last_span, last_table, left_now, state_then, table_if, turn_now, wants_by};
+ghost use Rattle.cv_exec.specs.Passing.{EndsBy, passed};
+ghost use Rattle.cv_patch.specs.Indexing.{AreFree};
 ghost use Rattle.cv_exec.specs.RunEnds.{end_with};
 ghost use Rattle.cv_machine.specs.Answers.{answer_of};
 ghost use Rattle.cv_machine.specs.Held.{state_of};
-ghost use Rattle.cv_patch.specs.Applied.{applied};
-ghost use Rattle.cv_patch.specs.Counts.{fired_ready, tally_ready};
+ghost use Rattle.cv_patch.specs.Applied.{applied, left_at};
+ghost use Rattle.cv_patch.specs.Counts.{FiredGoesOn, TallyGoesOn, fired_ready, fired_up_to, tally_ready, tally_up_to};
 ghost use Rattle.cv_runs.specs.PatchedRun.{PatchedStep};
 
 use crate::ending::Account;
 use cv_base::{Adopted, End, Items, Mode, NoMemory, PatchTable, TextRange};
 use cv_blocks::EntryRule;
-use cv_machine::{Machine, Turn};
-use cv_patch::{Applied, Fired, Tally, apply};
+use cv_machine::{Machine, Stretch, Turn};
+use cv_patch::{Applied, Fired, Indexed, Tally, apply_indexed};
+use cv_shadow::Core;
 use std::alloc::Global;
 use std::marker::Model;
 use std::sync::Arc;
@@ -39,14 +44,18 @@ impl Model for Span {
 /// its patches noted.
 #[derive(Drop)]
 pub(crate) struct Patched {
+    alloc: Global,
     text: TextRange,
     rule: EntryRule,
     /// Whether the next turn is a block entry, and whether a table was adopted for it.
     enters: bool,
     entered: bool,
     spans: Vec<Span>,
-    /// Whether the tally and the firings have a row for each patch of the last span's table.
+    /// Whether the tally and the firings have a row for each patch of the last span's table, and the
+    /// index is of that table.
     prepared: bool,
+    /// The table with its index; none where it has no patch.
+    index: Option<Indexed>,
     tally: Tally,
     fired: Fired,
 }
@@ -59,12 +68,14 @@ impl Patched {
         let mut rule = EntryRule::make();
         let enters = rule.next(false);
         Patched {
+            alloc,
             text,
             rule,
             enters,
             entered: false,
             spans: Vec::new(alloc),
             prepared: false,
+            index: None,
             tally: Tally::make(alloc),
             fired: Fired::make(alloc),
         }
@@ -109,22 +120,45 @@ impl Patched {
         Ok(())
     }
 
-    /// Sees to it that each patch of a version's table has its row.
-    fn prepare(&mut self, version: u32, table: &PatchTable) -> Result<(), NoMemory>
+    /// A block entry adopts the version adopted last once more, where it is this one: whether it was.
+    /// It takes no memory, and asks for no table.
+    pub(crate) fn again(&mut self, version: u32) -> bool
+        requires room { length (adoptions_of self.old.spans.items) < 4294967295 }
         requires ready { self.old.prepared ≡ true → IsReady self.old }
-        requires known { is_of_version version (last_span self.old.spans.items) ≡ true → last_table self.old.spans.items ≡ table.now }
-        ensures tally { OnOk result (tally_ready table.now self.new.tally ≡ true) }
-        ensures fired { OnOk result (fired_ready table.now self.new.fired ≡ true) }
+        ensures known { result ≡ true → is_of_version version (last_span self.old.spans.items) ≡ true }
+        ensures entered { result ≡ true → IsEntered version (last_table self.old.spans.items) self.old self.new }
+        ensures same { result ≡ false → self.new ≡ self.old }
+    {
+        if !self.prepared {
+            return false;
+        }
+        if !is_last(self.spans.as_slice(), version) {
+            return false;
+        }
+        count_entry(&mut self.spans, version);
+        self.entered = true;
+        true
+    }
+
+    /// Sees to it that each patch of a version's table has its row, and the table its index.
+    fn prepare(&mut self, version: u32, table: &Arc<PatchTable, Global>) -> Result<(), NoMemory>
+        requires ready { self.old.prepared ≡ true → IsReady self.old }
+        requires known { is_of_version version (last_span self.old.spans.items) ≡ true → last_table self.old.spans.items ≡ table.now.value }
+        ensures tally { OnOk result (tally_ready table.now.value self.new.tally ≡ true) }
+        ensures fired { OnOk result (fired_ready table.now.value self.new.fired ≡ true) }
+        ensures index { OnOk result (indexed_table self.new.index ≡ table.now.value) }
         ensures ready { self.new.prepared ≡ true → IsReady self.new }
         ensures counts { KeepsCounts self.old self.new }
-        ensures rest { self.new ≡ record self.old { prepared = self.new.prepared; tally = self.new.tally; fired = self.new.fired } }
+        ensures rest { self.new ≡ record self.old { prepared = self.new.prepared; index = self.new.index; tally = self.new.tally; fired = self.new.fired } }
     {
         if self.prepared && is_last(self.spans.as_slice(), version) {
             return Ok(());
         }
         self.prepared = false;
         self.tally.prepare(table)?;
-        self.fired.prepare(table)
+        self.fired.prepare(table)?;
+        self.index = index_of(self.alloc, table)?;
+        Ok(())
     }
 
     /// A patched turn with the table adopted last, of `left` that the budget still allows: how the run
@@ -174,16 +208,37 @@ impl Patched {
         ensures noted { IsNoted (turn_now self.old machine.old) self.old self.new }
         ensures rest { self.new ≡ record self.old { tally = self.new.tally; fired = self.new.fired } }
     {
-        let Some(span) = self.spans.as_slice().last() else {
-            unreachable!()
-        };
-        apply(
-            &span.table,
+        apply_with(
+            &self.index,
             self.text,
             machine.core_mut(),
             &mut self.tally,
             &mut self.fired,
         )
+    }
+
+    /// How many plain turns may be made at once from a point on, `most` at most: none of them has a
+    /// patch, and no block entry comes before the last where none but the last is a transfer.
+    pub(crate) fn free(&self, pc: u32, most: u32) -> u32
+        requires { IsReady self.now }
+        ensures free { AreFree (last_table self.now.spans.items) result pc }
+        ensures ends { EndsBy self.now.rule result }
+        ensures most { result ≤ most }
+    {
+        let room = self.rule.room();
+        let most = room.min(most);
+        free_words(&self.index, pc, most)
+    }
+
+    /// Goes on over turns that the machine made, one at the least.
+    pub(crate) fn pass(&mut self, stretch: Stretch)
+        requires some { 0 < stretch.turns }
+        requires ends { EndsBy self.old.rule stretch.turns }
+        ensures { self.new ≡ passed stretch.turns stretch.transfer self.old }
+    {
+        self.rule.pass(stretch.turns - 1);
+        self.enters = self.rule.next(stretch.transfer);
+        self.entered = false;
     }
 
     /// What the run tells of itself: what it adopted, checked and repaired.
@@ -255,4 +310,61 @@ fn add_entry(
         })?;
     }
     Ok(())
+}
+
+/// One block entry more of the version adopted last.
+fn count_entry(spans: &mut Vec<Span>, version: u32)
+    requires room { length (adoptions_of spans.old.items) < 4294967295 }
+    requires last { is_of_version version (last_span spans.old.items) ≡ true }
+    ensures { spans.new.items ≡ one_entry_more version (last_table spans.old.items) spans.old.items }
+{
+    let last = spans.len() - 1;
+    spans[last].entries += 1;
+}
+
+/// A table with its index, where it has a patch.
+fn index_of(alloc: Global, table: &Arc<PatchTable, Global>) -> Result<Option<Indexed>, NoMemory>
+    ensures { IfOk result (λ index. indexed_table index ≡ table.now.value) }
+{
+    if table.patches.is_empty() {
+        return Ok(None);
+    }
+    let indexed = Indexed::make(alloc, Arc::try_clone(table)?)?;
+    Ok(Some(indexed))
+}
+
+/// How many words from an address on have no patch, at most `most`.
+fn free_words(index: &Option<Indexed>, pc: u32, most: u32) -> u32
+    ensures free { AreFree (indexed_table index.now) result pc }
+    ensures most { result ≤ most }
+{
+    match index {
+        None => most,
+        Some(table) => table.free_from(pc).min(most),
+    }
+}
+
+/// The patches of a table at the pc, by its index.
+fn apply_with(
+    index: &Option<Indexed>,
+    text: TextRange,
+    core: &mut Core,
+    tally: &mut Tally,
+    fired: &mut Fired,
+) -> Applied
+    requires point { is_point_in text.base text.count core.old.pc ≡ true }
+    requires tally_ready { tally_ready (indexed_table index.now) tally.old ≡ true }
+    requires fired_ready { fired_ready (indexed_table index.now) fired.old ≡ true }
+    requires tally_room { tally_up_to 4294967294 tally.old ≡ true }
+    requires fired_room { fired_up_to 4294967294 fired.old ≡ true }
+    ensures core { core.new ≡ (left_at text (indexed_table index.now) core.old).core }
+    ensures applied { result ≡ applied core.old (left_at text (indexed_table index.now) core.old) }
+    ensures tally { TallyGoesOn (indexed_table index.now) tally.old tally.new (checks_in (left_at text (indexed_table index.now) core.old).notes) }
+    ensures fired { FiredGoesOn (indexed_table index.now) fired.old fired.new (firings_in (left_at text (indexed_table index.now) core.old).notes) }
+    ensures point { is_point_in text.base text.count core.new.pc ≡ true }
+{
+    match index {
+        None => Applied::Go,
+        Some(table) => apply_indexed(table, text, core, tally, fired),
+    }
 }

@@ -11,5 +11,6 @@ pub mod Ordered
 pub mod Restores
 pub mod Rising
 pub mod RowsByKey
+pub mod Slots
 pub mod Standing
 pub mod Tallies

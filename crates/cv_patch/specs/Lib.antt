@@ -2,6 +2,7 @@ pub mod Adopting
 pub mod Applied
 pub mod Bumped
 pub mod Counts
+pub mod Indexing
 pub mod Noted
 pub mod OnePatch
 pub mod Prepared

@@ -61,18 +61,23 @@ pub fn apply(
 }
 
 /// Whether a patch stands at the pc.
-fn stands_at(patch: &Patch, pc: u32) -> bool
+pub(crate) fn stands_at(patch: &Patch, pc: u32) -> bool
     ensures { result ≡ (patch_point patch.now == pc) }
 {
+    point_of_patch(patch) == pc
+}
+
+/// The point of a patch.
+pub(crate) fn point_of_patch(patch: &Patch) -> u32
+    ensures { result ≡ patch_point patch.now }
+{
     match patch {
-        Patch::Check { invariant, .. } | Patch::Enforce { invariant, .. } => {
-            point_of(invariant) == pc
-        }
+        Patch::Check { invariant, .. } | Patch::Enforce { invariant, .. } => point_of(invariant),
     }
 }
 
 /// Does one patch, and counts what it notes.
-fn apply_one(
+pub(crate) fn apply_one(
     patch: &Patch,
     text: TextRange,
     core: &mut Core,

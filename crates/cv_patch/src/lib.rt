@@ -5,6 +5,7 @@
 mod adopting;
 mod applying;
 mod fired;
+mod indexed;
 mod laws;
 mod listed;
 mod tally;
@@ -12,6 +13,7 @@ mod tally;
 pub use adopting::{Adopter, Watcher};
 pub use applying::{Applied, apply};
 pub use fired::Fired;
+pub use indexed::{Indexed, apply_indexed};
 pub use laws::set_restores;
 pub use listed::Listed;
 pub use tally::Tally;

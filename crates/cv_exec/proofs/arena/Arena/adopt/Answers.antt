@@ -1,5 +1,4 @@
-use Rattle.std.proofs.Common.{◌≡◌, ◌≤◌, ◌∙◌, true, Some, ap, sym, arith}
-use Rattle.std.specs.Prelude.{OnOk, option_map}
+use Rattle.std.proofs.Common.{◌≡◌, ◌≤◌, true, Some, arith}
 use Rattle.cv_exec.specs.ArenaOf.{wants}
 use Rattle.cv_exec.specs.ArenaStands.{IsStarted, going_with}
 use Rattle.cv_exec.specs.LiveRun.{MayAdopt}

@@ -1,4 +1,4 @@
-use Rattle.std.proofs.Common.{◌≡◌, ◌∙◌, true, [], Some, ap, sym}
+use Rattle.std.proofs.Common.{◌≡◌, ◌∙◌, true, [], Some, ap, subst, sym}
 use Rattle.std.proofs.lemmas.Result.{IfOk-weaker, on_ok_weaker}
 use Rattle.cv_exec.specs.ArenaOf.{entry_of_going, is_over, seen_so_far, wants}
 use Rattle.cv_exec.specs.ArenaStands.{turns_in}
@@ -30,5 +30,5 @@ returns-clause-seen c =
     on_ok_weaker c.finish.result
     (λ seen.
     learn_seen_by c.flown_is_of.ensures c.flown_is_plain.ensures c.args.plan.now c.finish.new.self.summary c.args.run c.args.worker (turns_in c.loop-over.self.going) c.requires.learns over
-    (seen ∙ ap (λ p. seen_so_far p c.loop-over.self.going) c.loop-over.invariant.plan ∙ ap (seen_so_far c.args.plan.now) going))
+    (subst (StandsFor c.finish.new.self.summary) (ap (λ p. seen_so_far p c.loop-over.self.going) c.loop-over.invariant.plan ∙ ap (seen_so_far c.args.plan.now) going) seen))
     c.finish.ensures.seen

@@ -6,7 +6,7 @@ use Rattle.cv_exec.proofs.patched.Patched.adopt.Goals as goal
 
 pub prepare-requires-clause-known : goal.prepare-requires-clause-known
 prepare-requires-clause-known c = λ is.
-    same_table c.args.version c.args.table.value c.args.self.now.spans.items c.requires.may is ∙ sym c.deref.ensures
+    same_table c.args.version c.args.table.value c.args.self.now.spans.items c.requires.may is
 
 pub returns-clause-ok : goal.returns-clause-ok
 returns-clause-ok c =
@@ -22,8 +22,9 @@ returns-clause-ok c =
       spans = spans;
       prepared = refl;
       ready = record {
-        tally = rw last (rw c.deref.ensures at c.in_ok-prepare.ensures.tally);
-        fired = rw last (rw c.deref.ensures at c.in_ok-prepare.ensures.fired);
+        index = c.in_ok-prepare.ensures.index ∙ sym last;
+        tally = rw last c.in_ok-prepare.ensures.tally;
+        fired = rw last c.in_ok-prepare.ensures.fired;
       };
       counts = record {
         checks = c.prepare.ensures.counts.checks;
