@@ -85,7 +85,7 @@ module _ (k : Kept) (kept : IsKept k) (e : Entry) (x : Next) (next : IsNext k e 
   Rest vs ms = (map (λ (t : Version). t.value) vs.items ≡ now k kept e) × (ms.items ≡ makers k.plan (e ∷ past_of k)) × (vec_capacity k.versions ≤ vec_capacity vs) × (vec_capacity k.makers ≤ vec_capacity ms)
 
   learned_now : (o : Option SummaryOf) → IsLearned k e o → ((unwrap_or o k.summary).text ≡ text_only k.plan.image) × StandsFor (unwrap_or o k.summary) (observed k.plan (seen_with k e))
-  learned_now None unseen = (kept.summary, kept.learned ∙ sym (observed_same k.plan (seen_as k e) k.journal unseen))
+  learned_now None unseen = (kept.summary, subst (StandsFor k.summary) (sym (observed_same k.plan (seen_as k e) k.journal unseen)) kept.learned)
   learned_now (Some s) is = is
 
   whole : (vs : Vec Version Global) (ms : Vec (Option ℕ) Global) → Rest vs ms → IsKept (kept_with (seen_with k e) vs ms (unwrap_or x.summary k.summary))

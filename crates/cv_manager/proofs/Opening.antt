@@ -14,7 +14,6 @@ use Rattle.cv_histories.specs.Seen.{Seen, learned_of, live_failure, observed}
 use Rattle.cv_runs.specs.Learned.{learned}
 use Rattle.cv_runs.specs.Text.{beginnings}
 use Rattle.cv_base.specs.WellFormed.{IsImage}
-use Rattle.cv_observe.specs.StandsFor.{are_at_points}
 use Rattle.cv_manager.specs.declared.kept.Kept.{Kept}
 use Rattle.cv_manager.specs.Kept.{IsKept}
 use Rattle.cv_manager.proofs.Observing.{not_learned, observed_same}
@@ -57,8 +56,3 @@ opened_now plan before s past id case failed new room same opened candidates =
     ∙ sym
     (ap (opened_by plan before (s ∷ past) s.entry.sites) failed
     ∙ ap (λ (b : Bool). elim b as (λ _. List Case) [ true ↦ [] | false ↦ made ∷ [] ]) test)
-
--- what was seen in the runs that are learned from was seen at points
-pub seen_at_points : (k : Kept) → IsKept k → IsImage k.plan.image → IsTrue (are_at_points k.summary.text k.summary.seen)
-seen_at_points k kept is =
-    rw (kept.summary, kept.learned) (observed_at_points k.plan k.journal is)

@@ -29,16 +29,16 @@ cmp_greater k x h =
     rw (e, f) refl
 
 module _ (k x : ℕ) (xs : List ℕ) where
-  before : k < x → put (x ∷ xs) k ≡ k ∷ x ∷ xs
+  pub before : k < x → put (x ∷ xs) k ≡ k ∷ x ∷ xs
   before h = ap (λ o. match_ordering o (k ∷ x ∷ xs) (x ∷ xs) (x ∷ put xs k)) (cmp_less k x h)
 
-  there : k ≡ x → put (x ∷ xs) k ≡ x ∷ xs
+  pub there : k ≡ x → put (x ∷ xs) k ≡ x ∷ xs
   there h = ap (λ o. match_ordering o (k ∷ x ∷ xs) (x ∷ xs) (x ∷ put xs k)) (cmp_equal k x h)
 
-  behind : x < k → put (x ∷ xs) k ≡ x ∷ put xs k
+  pub behind : x < k → put (x ∷ xs) k ≡ x ∷ put xs k
   behind h = ap (λ o. match_ordering o (k ∷ x ∷ xs) (x ∷ xs) (x ∷ put xs k)) (cmp_greater k x h)
 
-three : (C : Type 0) (k x : ℕ) → (k < x → C) → (k ≡ x → C) → (x < k → C) → C
+pub three : (C : Type 0) (k x : ℕ) → (k < x → C) → (k ≡ x → C) → (x < k → C) → C
 three C k x less same more =
     ⊎_elim less (λ up. ⊎_elim same (λ other. more (omega arith)) (cases_eq k x)) (cases_lt k x)
 
@@ -70,7 +70,7 @@ put_put xs a b =
     (λ e. rw e refl)
     (λ h. sym (put_lesser xs b a h))
 
-put_twice : (xs : List ℕ) (k : ℕ) → put (put xs k) k ≡ put xs k
+pub put_twice : (xs : List ℕ) (k : ℕ) → put (put xs k) k ≡ put xs k
 put_twice [] k = there k k [] refl
 put_twice (x ∷ xs) k =
     three (put (put (x ∷ xs) k) k ≡ put (x ∷ xs) k) k x
@@ -79,7 +79,7 @@ put_twice (x ∷ xs) k =
     (λ e. rw (behind k x xs e) (behind k x (put xs k) e ∙ ap (λ l. x ∷ l) (put_twice xs k)))
 
 -- the first key may as well come last
-put_first : (keys : List ℕ) (k : ℕ) (xs : List ℕ) → fold put (put keys k) xs ≡ put (fold put keys xs) k
+pub put_first : (keys : List ℕ) (k : ℕ) (xs : List ℕ) → fold put (put keys k) xs ≡ put (fold put keys xs) k
 put_first keys k [] = refl
 put_first keys k (x ∷ xs) = ap (λ l. fold put l xs) (put_put keys k x) ∙ put_first (put keys x) k xs
 

@@ -1,6 +1,15 @@
+pub mod Adding
 pub mod AnyOrder
+pub mod AtPoints
 pub mod Distinct
+pub mod EachPlace
 pub mod Folds
+pub mod FromKept
 pub mod Insertions
+pub mod LearnedFrom
 pub mod Least
 pub mod Members
+pub mod Narrowing
+pub mod OneOut
+pub mod OneTable
+pub mod PointsSeen

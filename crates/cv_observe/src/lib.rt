@@ -2,11 +2,22 @@
 //! of them (docs/REPAIR.md, "Learning").
 #![tactic(auto)]
 
+mod few;
 mod kinds;
 mod laws;
 mod learning;
+mod lessons;
 mod numbers;
+mod pairs;
+mod plain;
+mod point;
+mod register;
 mod summary;
+mod table;
 
-pub use laws::{distinct_numbers_of_two_lists, learned_in_any_order};
+pub use laws::{
+    distinct_numbers_of_two_lists, learned_in_any_order, least_of_two_lists,
+    more_numbers_stay_more, pairs_of_two_lists,
+};
+pub use plain::Plain;
 pub use summary::Summary;

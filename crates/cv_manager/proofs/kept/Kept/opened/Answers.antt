@@ -1,6 +1,5 @@
 use Rattle.std.proofs.Common.{◌<◌, ◌∙◌, List, length, refl, sym, ap, arith}
 use Rattle.std.specs.List.{list_all}
-use Rattle.std.specs.Prelude.{IsTrue}
 use Rattle.cv_base.specs.declared.invariants.Invariant.{Invariant}
 use Rattle.cv_base.specs.Invariants.{is_invariant}
 use Rattle.cv_base.specs.Picture.{Picture, is_point}
@@ -9,8 +8,7 @@ use Rattle.cv_histories.specs.Seen.{observed}
 use Rattle.cv_manager.specs.Kept.{seen_as}
 use Rattle.cv_manager.proofs.Sizes.{few_candidates}
 use Rattle.cv_manager.proofs.LearnedKinds.{learned_kinds, learned_points}
-use Rattle.cv_manager.proofs.Opening.{beginnings_text, learned_text, opened_now, seen_at_points}
-use Rattle.cv_observe.specs.StandsFor.{are_at_points}
+use Rattle.cv_manager.proofs.Opening.{beginnings_text, learned_text, opened_now}
 use Rattle.cv_runs.specs.Invariants.{point_of}
 use Rattle.cv_runs.specs.Learned.{learned}
 use Rattle.cv_runs.specs.Text.{beginnings}
@@ -20,10 +18,10 @@ pub open_case-requires-clause-points : goal.open_case-requires-clause-points
 open_case-requires-clause-points c =
     let k = c.args.self.now in
     let all = λ (text : Picture) (ks : List Invariant). list_all (λ (i : Invariant). is_point text (point_of i)) ks in
-    let at : IsTrue (are_at_points k.summary.text k.summary.seen) = seen_at_points k c.requires.kept c.requires.kept.image in
-    ap (all k.map) (c.as_slice.ensures ∙ c.in_ok-learned.ensures k.summary.seen refl)
-    ∙ ap (λ (t : Picture). all t (learned k.summary.text k.summary.seen)) (c.requires.kept.text ∙ sym c.requires.kept.summary)
-    ∙ learned_points k.summary.text k.summary.seen at
+    let before = observed k.plan k.journal in
+    ap (all k.map) (c.as_slice.ensures ∙ c.in_ok-learned.ensures before c.requires.kept.learned)
+    ∙ ap (λ (t : Picture). all t (learned k.summary.text before)) (c.requires.kept.text ∙ sym c.requires.kept.summary)
+    ∙ learned_points k.summary.text before c.requires.kept.learned.at_points
 
 pub returns-clause-opened : goal.returns-clause-opened
 returns-clause-opened c =
@@ -48,9 +46,10 @@ returns-clause-opened c =
 
 pub returns-clause-each : goal.returns-clause-each
 returns-clause-each c =
-    let k = c.args.self.now in (
+    let k = c.args.self.now in
+    let before = observed k.plan k.journal in (
       record {
-        kinds = c.in_ok-case.ensures.kinds (ap (list_all is_invariant) (c.as_slice.ensures ∙ c.in_ok-learned.ensures k.summary.seen refl) ∙ learned_kinds k.summary.text k.summary.seen);
+        kinds = c.in_ok-case.ensures.kinds (ap (list_all is_invariant) (c.as_slice.ensures ∙ c.in_ok-learned.ensures before c.requires.kept.learned) ∙ learned_kinds k.summary.text before);
         points = ap (λ (t : Picture). list_all (λ (i : Invariant). is_point t (point_of i)) c.in_ok-case.case.candidates) (sym c.requires.kept.text) ∙ c.in_ok-case.ensures.points;
         few = rw c.in_ok-case.ensures.candidates (few_candidates (beginnings k.map) c.as_slice.result.now c.args.entry.now.sites);
       },

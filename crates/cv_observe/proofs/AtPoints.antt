@@ -1,0 +1,62 @@
+-- What is kept at a point, with one observation more, and of two lists together.
+use Rattle.std.proofs.Common.{◌≡◌, ℕ, ◌+◌, ◌<◌, Bool, true, false, ◌||◌, List, [], ◌∷◌, ◌++◌, ◌∙◌, refl, sym, ap, subst, length, get_or, take, map, length-append, arith}
+use Rattle.std.proofs.lemmas.List.{map-append}
+use Rattle.std.proofs.Math.Seq.{take-append_seam}
+use Rattle.std.specs.List.{All}
+use Rattle.cv_base.specs.declared.entries.Observation.{Observation}
+use Rattle.cv_observe.proofs.EachPlace.{parts_stay}
+use Rattle.cv_observe.specs.AtPoint.{IsPoint, IsRegister, Joins, Sees, numbers_of, offset_of}
+use Rattle.cv_observe.specs.Kept.{IsFew}
+use Rattle.cv_observe.specs.declared.point.Point.{Point}
+use Rattle.cv_observe.specs.declared.register.Register.{Register}
+
+-- a vector after a write of all its elements
+pub refilled : {X : Type 0} (n : ℕ) (list rest : List X) → length list ≡ n → take n (list ++ rest) ≡ list
+refilled n list rest long = ap (λ k. take k (list ++ rest)) (sym long) ∙ take-append_seam list rest
+
+module _ (old list : List Register) (regs : List ℕ) (long : length list ≡ length old) (each : (x : ℕ) (d : Register) → x < length old → Sees (get_or old x d) (get_or list x d) regs) where
+  pub sees_numbers : numbers_of list ≡ numbers_of old
+  sees_numbers = parts_stay (λ (k : Register). k.number) old list long (λ x d within. (each x d within).number)
+
+  sees_all : (window : ℕ → Bool) (here : List Observation) (o : Observation) → o.regs ≡ regs → All (λ r. IsRegister window r here) old → All (λ r. IsRegister window r (here ++ o ∷ [])) list
+  sees_all window here o same all x d within =
+      let inside : x < length old = omega arith in (each x d inside).kept window here o same (all x d inside)
+
+  pub point_sees : (k new : Point) (offset : ℕ) → k.registers.items ≡ old → new.registers.items ≡ list → new.seen ≡ true
+      → ((numbers : List ℕ) → IsFew 1 k.offsets.numbers.items k.offsets.more numbers → IsFew 1 new.offsets.numbers.items new.offsets.more (numbers ++ offset ∷ []))
+      → (window : ℕ → Bool) (here : List Observation) (o : Observation) → o.regs ≡ regs → offset ≡ offset_of o → IsPoint window k here → IsPoint window new (here ++ o ∷ [])
+  point_sees k new offset were are seen adds window here o same is point = record {
+    unseen = λ e. cc;
+    seen = λ e. let l = length-append here (o ∷ []) in omega arith;
+    offsets = subst (λ l. IsFew 1 new.offsets.numbers.items new.offsets.more l) (ap (λ v. map offset_of here ++ v ∷ []) is ∙ sym (map-append offset_of here (o ∷ []))) (adds (map offset_of here) point.offsets);
+    registers = subst (All (λ r. IsRegister window r (here ++ o ∷ []))) (sym are) (sees_all window here o same (subst (All (λ r. IsRegister window r here)) were point.registers));
+  }
+
+module _ (old others list : List Register) (long : length list ≡ length old) (as_long : length others ≡ length old) (each : (x : ℕ) (d : Register) → x < length old → Joins (get_or old x d) (get_or others x d) (get_or list x d)) where
+  pub joins_numbers : numbers_of list ≡ numbers_of old
+  joins_numbers = parts_stay (λ (k : Register). k.number) old list long (λ x d within. (each x d within).number)
+
+  joins_all : (window : ℕ → Bool) (xs ys : List Observation) → All (λ r. IsRegister window r xs) old → All (λ r. IsRegister window r ys) others → All (λ r. IsRegister window r (xs ++ ys)) list
+  joins_all window xs ys all more x d within =
+      let inside : x < length old = omega arith in
+      let there : x < length others = omega arith in
+      (each x d inside).kept window xs ys (all x d inside) (more x d there)
+
+  none_of : (a b : Bool) → (a || b) ≡ false → (a ≡ false) × (b ≡ false)
+  none_of false false e = (refl, refl)
+  none_of false true e = (refl, e)
+  none_of true b e = (e, cc)
+
+  some_of : (a b : Bool) (m n : ℕ) → (a ≡ true → 0 < m) → (b ≡ true → 0 < n) → (a || b) ≡ true → 0 < m + n
+  some_of true b m n f g e = let h = f refl in omega arith
+  some_of false b m n f g e = let h = g e in omega arith
+
+  pub point_joins : (k other new : Point) → k.registers.items ≡ old → other.registers.items ≡ others → new.registers.items ≡ list → new.seen ≡ (k.seen || other.seen)
+      → ((xs ys : List ℕ) → IsFew 1 k.offsets.numbers.items k.offsets.more xs → IsFew 1 other.offsets.numbers.items other.offsets.more ys → IsFew 1 new.offsets.numbers.items new.offsets.more (xs ++ ys))
+      → (window : ℕ → Bool) (xs ys : List Observation) → IsPoint window k xs → IsPoint window other ys → IsPoint window new (xs ++ ys)
+  point_joins k other new were there are seen adds window xs ys a b = record {
+    unseen = λ e. let both = none_of k.seen other.seen (sym seen ∙ e) in ap (λ l. l ++ ys) (a.unseen both.0) ∙ b.unseen both.1;
+    seen = λ e. let l = length-append xs ys in let h = some_of k.seen other.seen (length xs) (length ys) a.seen b.seen (sym seen ∙ e) in omega arith;
+    offsets = subst (λ l. IsFew 1 new.offsets.numbers.items new.offsets.more l) (sym (map-append offset_of xs ys)) (adds (map offset_of xs) (map offset_of ys) a.offsets b.offsets);
+    registers = subst (All (λ r. IsRegister window r (xs ++ ys))) (sym are) (joins_all window xs ys (subst (All (λ r. IsRegister window r xs)) were a.registers) (subst (All (λ r. IsRegister window r ys)) there b.registers));
+  }

@@ -1,0 +1,21 @@
+use Rattle.std.proofs.Common.{◌≡◌, ℕ, Bool, true, false, ◌∙◌, refl, sym, ap}
+use Rattle.cv_base.specs.Registers.{register}
+use Rattle.cv_runs.specs.Invariants.{signed_le}
+use Rattle.cv_observe.proofs.OneOut.{narrowed_with, narrowed_without, narrowed_all}
+use Rattle.cv_observe.proofs.pairs.at_least.Goals as goal
+
+pub loop-b-preserved-then-not-is_at_most : goal.loop-b-preserved-then-not-is_at_most
+loop-b-preserved-then-not-is_at_most c =
+    let test : ℕ → Bool = λ b. signed_le c.args.value (register c.args.regs.now b) in
+    let fails : test c.in-Some.b ≡ false = ap (λ v. signed_le c.args.value v) (sym c.get.ensures) ∙ sym c.is_at_most.ensures ∙ c.if-not-is_at_most.true in
+    narrowed_without c.args.set test c.loop-b.left c.without-left.result c.loop-b.kept c.without-kept.result c.in-Some.b c.without-left.ensures.others c.without-kept.ensures.others fails c.loop-b.invariant
+
+pub loop-b-preserved : goal.loop-b-preserved
+loop-b-preserved c =
+    let test : ℕ → Bool = λ b. signed_le c.args.value (register c.args.regs.now b) in
+    let passes : test c.in-Some.b ≡ true = ap (λ v. signed_le c.args.value v) (sym c.get.ensures) ∙ sym c.is_at_most.ensures ∙ c.if-not-is_at_most.false in
+    narrowed_with c.args.set test c.loop-b.left c.without-left.result c.loop-b.kept c.in-Some.b c.without-left.ensures.others passes c.loop-b.invariant
+
+pub returns : goal.returns
+returns c =
+    narrowed_all c.args.set (λ b. signed_le c.args.value (register c.args.regs.now b)) c.loop-b.left c.loop-b.kept (c.in_default.ensures.none refl) c.loop-b.invariant
