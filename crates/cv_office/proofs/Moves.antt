@@ -71,6 +71,7 @@ module _ {M T : Type 0} where
           view = refl;
           opening = o;
           renewal = law.1;
+          master = law.2;
           row = λ r role hand run. subst (λ (k : ℕ). MayPost o k v r) (sym found) (row_may_be_posted M T o h.word0 h.word1 s.views id v r h.ruled at role hand run);
         },
       )

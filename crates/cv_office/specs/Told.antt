@@ -5,7 +5,7 @@ use mathlib.Core.Option.{some}
 use Rattle.atomic_table.specs.Seated.{TableId}
 use Rattle.atomic_table.specs.Table.{Me, State, Step}
 use Rattle.cv_rule.specs.Counts.{Within, below, idle_rows, posted_of, times}
-use Rattle.cv_rule.specs.Laws.{IsNewVersion, IsRenewal, MayPost}
+use Rattle.cv_rule.specs.Laws.{IsNewVersion, IsRenewal, KnewAll, MayPost}
 use Rattle.cv_rule.specs.Rule.{Ruled}
 use Rattle.cv_rule.specs.Steps.{announced, booked, drawn, entered, renewed, worker_of}
 use Rattle.cv_rule.specs.declared.view.Opening.{Opening}
@@ -36,12 +36,13 @@ pub record Drew {M T : Type 0} (s : Step T) (me : Me T (View M T)) (found : ℕ)
   pub view : me'.0 ≡ drawn me.0 found
   pub few : found < 2 ^ 32
 
--- what a load after a join tells: the lists grew; and the master learns what it may post
+-- what a load after a join tells: the lists grew; the master's stay, and it learns what it may post
 pub record Renewed {M T : Type 0} (s : Step T) (me : Me T (View M T)) (found : ℕ) (me' : Me T (View M T)) : Type 0 where
   pub slots : me'.1 ≡ me.1
   pub view : me'.0 ≡ renewed me.0
   pub opening : Opening M
   pub renewal : IsRenewal opening me.0 (renewed me.0)
+  pub master : me.0.role ≡ Master → KnewAll me.0 (renewed me.0)
   pub row : (r : Row) → me.0.role ≡ Master → me.0.hand ≡ r ∷ [] → r.draw < opening.runs → MayPost opening found me.0 r
 
 -- so after a join and a load: one opening, and lists that both begin the longer ones
@@ -74,18 +75,6 @@ pub record IsPass {M T : Type 0} (v : View M T) : Type 0 where
 -- it can draw
 abbrev pub IsWaiting : {M T : Type 0} → View M T → Type 0
 IsWaiting v = (v.hand ≡ []) × (v.on_its_way ≡ None)
-
--- the round has so many runs, as the seat knows it
-abbrev pub HasRuns : {M T : Type 0} → ℕ → View M T → Type 0
-HasRuns {M} runs v = (o : Opening M) × (v.known.opening ≡ Some o) × (o.runs ≡ runs)
-
--- a number that was drawn is a run of the round
-abbrev pub IsDrawnRun : {M T : Type 0} → View M T → ℕ → Type 0
-IsDrawnRun {M} v draw = (o : Opening M) × (v.known.opening ≡ Some o) × (draw < o.runs)
-
--- a number was drawn that is no run of the round
-abbrev pub IsPastRuns : {M T : Type 0} → View M T → View M T → Type 0
-IsPastRuns {M} v w = (o : Opening M) × (v.known.opening ≡ Some o) × (draw : ℕ) × (o.runs ≤ draw) × (w ≡ drawn v draw)
 
 -- what the table's first state needs: the history's versions, each worker once, and few runs
 pub record IsStart {M T : Type 0} (o : Opening M) (versions : List T) (workers : List ℕ) : Type 0 where

@@ -1,5 +1,6 @@
 //! Single steps of seats.
 ghost use Rattle.std.specs.Prelude.{◌≡◌, ◌<◌, ◌≤◌, ◌-◌, ◌^◌, [], length, None, IfOk};
+ghost use Rattle.cv_rule.specs.declared.view.Opening.{Opening};
 ghost use Rattle.cv_rule.specs.declared.view.Role.TheVariants.{Master};
 ghost use Rattle.cv_office.specs.Told.{HasRun, HasRunsOnce, IsAlone, IsHolding, IsIdle, IsMaster, IsOwnRow, IsPass, IsPostable, IsStart, IsToldBoth, IsWaiting};
 ghost use Rattle.cv_rule.specs.Steps.{announced, booked, drawn, entered, giving_back, joined, master_at_start, new_pass, note_of, renewed, seating, sending};
@@ -76,6 +77,8 @@ pub fn hear<M, T, C: Opens<M, T>>(
     ensures heard { master.new.me.0 ≡ renewed (joined master.old.me.0 (note_of pass.old.me.0 [])) }
     ensures empty { IsMaster master.new.me.0 }
     ensures told { IsToldBoth (joined master.old.me.0 (note_of pass.old.me.0 [])) }
+    ensures known { master.new.me.0.known ≡ master.old.me.0.known }
+    ensures reach { pass.old.me.0.reach < length master.old.me.0.known.versions }
 {
     let note = board.shared.split_seat::<Notes>(pass);
     board.shared.join_seat::<Notes>(master, note);
@@ -119,6 +122,7 @@ pub fn send<M, T, C: Opens<M, T>>(
     ensures holding { IsHolding pass.old.me.0.hand master.new.me.0 }
     ensures told { IsToldBoth (joined master.old.me.0 (note_of pass.old.me.0 pass.old.me.0.hand)) }
     ensures may { IsPostable (joined master.old.me.0 (note_of pass.old.me.0 pass.old.me.0.hand)) pass.old.me.0.hand result }
+    ensures known { master.new.me.0.known ≡ master.old.me.0.known }
 {
     let note = board.shared.split_seat::<Sends>(pass);
     board.shared.join_seat::<Notes>(master, note);
@@ -177,7 +181,7 @@ pub fn give_back<M, T, C: Opens<M, T>>(
     board.shared.load::<Renews>(pass, 0);
 }
 
-/// The master takes a pass whose draws are all posted.
+/// The master takes a pass whose draws are all posted, and loads word 0.
 pub fn end<M, T, C: Opens<M, T>>(
     board: &Board<M, T, C>,
     master: &mut Place<M, T>,
@@ -187,16 +191,20 @@ pub fn end<M, T, C: Opens<M, T>>(
     requires master { master.old.me.0.role ≡ Master }
     requires pass { IsPass pass.me.0 × (pass.me.1 ≡ []) }
     requires done { (pass.me.0.on_its_way ≡ None) × IsIdle pass.me.0 }
-    ensures master { (master.new.table_id ≡ master.old.table_id) × (master.new.id ≡ master.old.id) × (master.new.me ≡ (joined master.old.me.0 pass.me.0, master.old.me.1)) }
+    ensures master { (master.new.table_id ≡ master.old.table_id) × (master.new.id ≡ master.old.id) × (master.new.me.1 ≡ master.old.me.1) }
+    ensures ended { master.new.me.0 ≡ renewed (joined master.old.me.0 pass.me.0) }
+    ensures told { IsToldBoth (joined master.old.me.0 pass.me.0) }
+    ensures known { master.new.me.0.known ≡ master.old.me.0.known }
 {
     board.shared.join_seat::<Notes>(master, pass);
+    board.shared.load::<Renews>(master, 0);
 }
 
 /// Closes the table. With all passes joined, of which one met the end of the round, the master's
 /// book list has each run of the round once, and no other.
 pub fn close<M, T, C: Opens<M, T>>(board: Board<M, T, C>, master: Place<M, T>)
     requires board { (board.shared.table_id.slots ≡ 0) × (master.table_id ≡ board.shared.table_id) }
-    ensures { IsAlone (C.opening board.shared.key) master.me.0 → HasRunsOnce (C.opening board.shared.key) master.me.0 }
+    ensures { (o : Opening M) → IsAlone o master.me.0 → HasRunsOnce o master.me.0 }
 {
     let closed = board.close_with(master);
     closed.free();

@@ -20,6 +20,7 @@ post_settles M T v m draw t begins way found =
     let met : entry_with draw (merging J).known.posted ≡ Some t = ap (λ (l : List Posted). entry_with draw l) (longer_second v.known.posted m.known.posted begins) ∙ found in
     let is : renewed J ≡ settled (merging J) draw (Some t) = ap (λ (w : Option ℕ). settled_by (merging J) w) way ∙ ap (λ (e : Option Posted). settled (merging J) draw e) met in
     record {
+      found = ap (λ (x : View M T). entry_with draw x.known.posted) is ∙ met;
       role = ap (λ (x : View M T). x.role) is;
       floor = ap (λ (x : View M T). x.floor) is;
       loaded = ap (λ (x : View M T). x.loaded) is;

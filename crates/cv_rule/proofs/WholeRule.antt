@@ -7,10 +7,10 @@ use Rattle.cv_rule.proofs.DrawLoads.{closes, few_draws, keeps_draws, merges, ren
 use Rattle.cv_rule.proofs.Draws.{Awaits, Carries, Rows, Seats, draws_one, ends_pass, gives_row_back, notes_none, posts_row, seats_pass, sends_row, takes_news, takes_note, takes_row_back}
 use Rattle.cv_rule.proofs.Order.{draws_in_order, enters_in_order, floor_back, gives_back_in_order, joins_in_order, notes_in_order, posts_in_order, renews_in_order, seats_in_order, sends_in_order, starts_in_order}
 use Rattle.cv_rule.proofs.Places.{set_else}
-use Rattle.cv_rule.proofs.Prefixes.{also_begins_longer, begins_longer, prefix_length}
+use Rattle.cv_rule.proofs.Prefixes.{also_begins_longer, begins_longer, longer_whole, prefix_length}
 use Rattle.cv_rule.proofs.Totals.{at_most_total, total_le}
 use Rattle.cv_rule.proofs.Versions.{draws, enters, gives_back, joins, notes, posts, renews, seats, sends, starts}
-use Rattle.cv_rule.specs.Counts.{IsAbove, Within, carried, entry_with, idle_rows, if_so, posted_of, rows_of}
+use Rattle.cv_rule.specs.Counts.{IsAbove, Within, carried, entry_with, idle_rows, if_so, longer, posted_of, rows_of}
 use Rattle.cv_rule.specs.Laws.{AnnounceKeeps, BookKeeps, CloseHasRuns, DrawKeeps, DrawsAreFew, EndKeeps, EnterKeeps, GiveBackKeeps, IsWithinFloors, LoadedMayBePosted, NewsKeeps, NoteKeeps, RenewKeeps, RowMayBePosted, SeatKeeps, SendKeeps, StartIsRuled, TakeBackKeeps, TakeKeeps}
 use Rattle.cv_rule.specs.Rule.{Has, IsFloor, Ruled}
 use Rattle.cv_rule.specs.Steps.{entries_of, joined, merged, others_of, renewed, settled, settled_by, way_with, merging}
@@ -130,11 +130,18 @@ module _ (M T : Type 0) where
         record {
           opening = is.known.opening_is;
           beside = is.beside.opening_is;
+          kept = ap (λ (x : Known M T). x.opening) (renewed_known v);
           versions = subst (λ (x : Known M T). IsPrefix v.known.versions x.versions) known (begins_longer v.known.versions v.beside.versions);
           versions_beside = subst (λ (x : Known M T). IsPrefix v.beside.versions x.versions) known (also_begins_longer v.known.versions v.beside.versions k.0 is.known.versions_begin is.beside.versions_begin);
           posted = subst (λ (x : Known M T). IsPrefix v.known.posted x.posted) known (begins_longer v.known.posted v.beside.posted);
           posted_beside = subst (λ (x : Known M T). IsPrefix v.beside.posted x.posted) known (also_begins_longer v.known.posted v.beside.posted k.1 is.known.book_begins is.beside.book_begins);
         },
+        λ role.
+            let own = is.own role in
+            let versions : longer v.known.versions v.beside.versions ≡ v.known.versions = longer_whole v.known.versions v.beside.versions (subst (λ (l : List T). IsPrefix v.beside.versions l) (sym own.1) is.beside.versions_begin) in
+            let posted : longer v.known.posted v.beside.posted ≡ v.known.posted = longer_whole v.known.posted v.beside.posted (subst (λ (l : List Posted). IsPrefix v.beside.posted l) (sym own.2) is.beside.book_begins) in
+            let same : merged v.known v.beside ≡ v.known = λ i. record v.known { versions = versions i; posted = posted i } in
+            record { known = renewed_known v ∙ same; reach = subst (λ (l : List T). v.reach < length l) (sym own.1) is.reach },
       )
 
   pub book_keeps : BookKeeps M T

@@ -54,16 +54,22 @@ EnterKeeps M T =
 pub record IsRenewal {M T : Type 0} (o : Opening M) (v w : View M T) : Type 0 where
   pub opening : v.known.opening ≡ Some o
   pub beside : v.beside.opening ≡ Some o
+  pub kept : w.known.opening ≡ v.known.opening
   pub versions : IsPrefix v.known.versions w.known.versions
   pub versions_beside : IsPrefix v.beside.versions w.known.versions
   pub posted : IsPrefix v.known.posted w.known.posted
   pub posted_beside : IsPrefix v.beside.posted w.known.posted
 
+-- and the master's tells that it knew all already: its lists stay, and have each version that the joined seat has loaded
+pub record KnewAll {M T : Type 0} (v w : View M T) : Type 0 where
+  pub known : w.known ≡ v.known
+  pub reach : v.reach < length v.known.versions
+
 abbrev pub RenewKeeps : Type 0 → Type 0 → Type 0
 RenewKeeps M T =
     (o : Opening M) (word0 word1 : ℕ) (views : List (View M T)) (id : ℕ) (v : View M T) → Ruled o word0 word1 views → Has views id v
     → v.role ≢ Spent
-    → Ruled o word0 word1 (slice_set views id (renewed v)) × IsRenewal o v (renewed v)
+    → Ruled o word0 word1 (slice_set views id (renewed v)) × IsRenewal o v (renewed v) × (v.role ≡ Master → KnewAll v (renewed v))
 
 -- ---- a post
 
@@ -225,8 +231,9 @@ LoadedMayBePosted M T =
 
 -- ---- after a post
 
--- the draw that was on its way is settled: it is in the posts with the versions that were loaded for it, and the floor is the version after its entry
+-- the draw that was on its way is settled: it is in the book list, and in the posts with the versions that were loaded for it, and the floor is the version after its entry
 pub record IsSettled {M T : Type 0} (v : View M T) (draw : ℕ) (t : Posted) (w : View M T) : Type 0 where
+  pub found : entry_with draw w.known.posted ≡ Some t
   pub role : w.role ≡ v.role
   pub floor : w.floor ≡ t.version
   pub loaded : w.loaded ≡ []

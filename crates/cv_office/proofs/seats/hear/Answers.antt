@@ -2,6 +2,7 @@ use Rattle.std.proofs.Common.{◌≡◌, ◌∙◌, ap, sym, subst, arith}
 use Rattle.cv_office.proofs.Moves.{notes, renewed_master, renews, takes}
 use Rattle.cv_office.proofs.seats.hear.Goals as goal
 use Rattle.cv_office.specs.Told.{IsMaster, IsToldBoth}
+use Rattle.cv_rule.specs.Laws.{KnewAll}
 use Rattle.cv_rule.specs.Steps.{joined, renewed}
 use Rattle.cv_rule.specs.declared.view.Role.TheVariants.{Master}
 
@@ -44,3 +45,19 @@ returns-clause-empty g c =
     let told = c.load.ensures.2 in
     let e = ap (λ m. m.0) c.join_seat.ensures.2 in
     subst IsMaster (sym (told.view ∙ ap (λ v. renewed v) e)) (renewed_master c.args.master.now.me.0 c.split_seat-note.result.me.0 c.requires.master (ap (λ m. m.0.hand) c.split_seat-note.ensures.4))
+
+pub returns-clause-known : goal.returns-clause-known
+returns-clause-known g c =
+    let told = c.load.ensures.2 in
+    let j = c.join_seat.ensures.2 in
+    let role : c.join_seat.new.seat.me.0.role ≡ Master = ap (λ m. m.0.role) j ∙ c.requires.master.role in
+    ap (λ v. v.known) told.view ∙ ((told.master role).known ∙ ap (λ m. m.0.known) j)
+
+pub returns-clause-reach : goal.returns-clause-reach
+returns-clause-reach g c =
+    let told = c.load.ensures.2 in
+    let j = c.join_seat.ensures.2 in
+    let role : c.join_seat.new.seat.me.0.role ≡ Master = ap (λ m. m.0.role) j ∙ c.requires.master.role in
+    let e = ap (λ m. m.0) j ∙ ap (λ m. joined c.args.master.now.me.0 m.0) c.split_seat-note.ensures.4 in
+    let all = subst (λ v. KnewAll v (renewed v)) e (told.master role) in
+    let reach = all.reach in omega arith

@@ -53,3 +53,10 @@ returns-clause-may g c =
     let told = c.load.ensures.2 in
     let e = ap (λ m. m.0) c.join_seat.ensures.2 ∙ ap (λ m. joined c.args.master.now.me.0 m.0) c.split_seat-note.ensures.4 in
     postable c.args.master.now.me.0 c.args.pass.now.me.0 c.join_seat.new.seat.me.0 c.load.result told.opening c.requires.master c.requires.row e told.renewal told.row
+
+pub returns-clause-known : goal.returns-clause-known
+returns-clause-known g c =
+    let told = c.load.ensures.2 in
+    let j = c.join_seat.ensures.2 in
+    let role : c.join_seat.new.seat.me.0.role ≡ Master = ap (λ m. m.0.role) j ∙ c.requires.master.role in
+    ap (λ v. v.known) told.view ∙ ((told.master role).known ∙ ap (λ m. m.0.known) j)

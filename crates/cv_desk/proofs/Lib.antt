@@ -1,0 +1,10 @@
+pub mod Closing
+pub mod Ending
+pub mod Following
+pub mod Keeping
+pub mod Noting
+pub mod RoundNumbers
+pub mod Seating
+pub mod Sending
+pub mod Starting
+pub mod Telling
