@@ -1,0 +1,4 @@
+mod Ending
+mod Running
+mod Seating
+mod Whole
