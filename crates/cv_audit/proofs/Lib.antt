@@ -1,0 +1,10 @@
+pub mod Again
+pub mod BreaksFirst
+pub mod Floors
+pub mod Judging
+pub mod Lists
+pub mod OneEntry
+pub mod Rising
+pub mod Rounds
+pub mod Scripts
+pub mod Tests

@@ -1,0 +1,15 @@
+//! A judge of a posted history that needs no trust in the run: each entry is tested and run again
+//! under the versions that it says (docs/REPAIR.md, "Audit").
+#![tactic(auto)]
+
+mod broken;
+mod following;
+mod laws;
+mod rerun;
+mod rows;
+mod same;
+mod scripted;
+mod verdict;
+
+pub use laws::{one_honest_entry, tests_are_following};
+pub use verdict::{Rebuilt, Verdict, audit, rebuild};
