@@ -1,6 +1,6 @@
 -- What a pass has in hand, what it may post, and what a call makes of it (docs/REPAIR.md, "The
 -- office").
-use Rattle.std.specs.Prelude.{◌≡◌, ◌≤◌, ◌+◌, ℕ, List, true, nat_lt, [], ◌∷◌, ◌++◌, length, Option, Some, None, slice_get}
+use Rattle.std.specs.Prelude.{◌≡◌, ◌<◌, ◌≤◌, ◌+◌, ℕ, List, true, nat_lt, [], ◌∷◌, ◌++◌, length, Option, Some, None, slice_get}
 use Rattle.std.specs.List.{AllByRecursion, list_any, range_with_len}
 use mathlib.Core.List.{IsPrefix}
 use Rattle.cv_desk.specs.Openings.{SettingOf, opening_of}
