@@ -10,8 +10,6 @@ mod files;
 mod infer;
 mod list;
 mod plain;
-#[cfg(test)]
-mod tests;
 mod texts;
 mod tool;
 mod words;
