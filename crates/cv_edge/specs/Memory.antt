@@ -54,3 +54,12 @@ abbrev pub after_write : Buffer → List ℕ → Buffer
 after_write s piece =
     if refuses s then record s { writes = counted s.writes; faults = counted s.faults }
     else record s { writes = counted s.writes; bytes = s.bytes ++ take (takes s (length piece)) piece }
+
+-- a buffer that is filled from its front: the bytes that it has so far, and how many it can have
+pub record Sheet : Type 0 where
+  pub bytes : List ℕ
+  pub room : ℕ
+
+-- the buffer after a write of a piece: what goes past its end is dropped
+abbrev pub after_sure_write : Sheet → List ℕ → Sheet
+after_sure_write s piece = record s { bytes = take s.room (s.bytes ++ piece) }

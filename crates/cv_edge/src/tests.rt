@@ -1,5 +1,6 @@
 use crate::{
-    Failed, FetchFail, Fetched, FileStore, MemSink, MemStore, Sink, StdSink, Store, write_all,
+    Failed, FetchFail, Fetched, FileStore, MemSink, MemStore, Sink, StdSink, Store, SureSink,
+    write_all,
 };
 use std::io::Write;
 use std::test::Fail;
@@ -138,5 +139,25 @@ fn a_sink_over_a_writer_writes_or_fails(rt: HostRuntime) -> Result<(), Fail> {
     assert_eq!(rt; only_read.write(b"x"), Err(Failed));
     let mut sated = StdSink::over(Sated);
     assert_eq!(rt; sated.write(b"x"), Err(Failed));
+    Ok(())
+}
+
+#[test]
+fn a_sure_sink_takes_all_and_keeps_what_its_buffer_holds(rt: HostRuntime) -> Result<(), Fail> {
+    let mut buffer = [b'.'; 8];
+    {
+        let mut sink = SureSink::over(&mut buffer[..]);
+        assert_eq!(rt; sink.write(b"abc"), Ok(3));
+    }
+    assert_eq!(rt; buffer.as_slice(), b"abc.....".as_slice());
+    {
+        let mut sink = SureSink::over(&mut buffer[..]);
+        assert_eq!(rt; sink.write(b"012345"), Ok(6));
+        assert_eq!(rt; write_all(&mut sink, b"6789"), Ok(()));
+        assert_eq!(rt; sink.write(b"x"), Ok(1));
+    }
+    assert_eq!(rt; buffer.as_slice(), b"01234567".as_slice());
+    let mut none = SureSink::over(&mut []);
+    assert_eq!(rt; none.write(b"x"), Ok(1));
     Ok(())
 }

@@ -8,12 +8,12 @@ ghost use Rattle.cv_histories.specs.Legal.{IsLegal, IsWhole};
 ghost use Rattle.cv_worker.specs.Instances.{HasMetEnd, InstanceOf, IsOfSetting, IsReady};
 ghost use Rattle.cv_worker.specs.Seats.{AreOf, IsStart};
 
-use crate::gate::Gate;
 use crate::instance::Instance;
 use crate::rounds::round as run_round;
 use cv_base::{NoMemory, Plan};
 use cv_core::Book;
 use cv_desk::{Draft, Office, Pass};
+use cv_edge::Gate;
 use cv_office::Named;
 use std::alloc::Global;
 use std::marker::Brand;

@@ -4,10 +4,10 @@ ghost use Rattle.cv_desk.specs.Openings.{SettingOf};
 ghost use Rattle.cv_desk.specs.Passes.{IsPastRuns};
 ghost use Rattle.cv_worker.specs.Instances.{AreSeated, HasMetEnd, HasTaken, IsOfSetting, IsReady, IsSame};
 
-use crate::gate::{Gate, Moment};
 use crate::shift::Shift;
 use cv_base::{NoMemory, Plan};
 use cv_desk::{Office, Pass};
+use cv_edge::{Gate, Moment};
 use cv_exec::Arena;
 use cv_office::Named;
 use std::alloc::Global;

@@ -4,12 +4,13 @@
 #![tactic(auto)]
 
 mod all_rounds;
-mod gate;
 mod instance;
 mod rounds;
 mod shift;
+#[cfg(test)]
+mod tests;
+mod watching;
 
 pub use all_rounds::{community, one_round};
-pub use gate::{Gate, Moment, OpenGate};
 pub use instance::Instance;
 pub use rounds::round;

@@ -4,10 +4,10 @@ ghost use Rattle.std.specs.Prelude.{◌≡◌, false, true, length, OnErr, OnOk}
 ghost use Rattle.cv_desk.specs.Openings.{SettingOf};
 ghost use Rattle.cv_worker.specs.Instances.{HasMetEnd, InstanceOf, IsOfSetting, IsReady};
 
-use crate::gate::Gate;
 use crate::instance::Instance;
 use cv_base::{NoMemory, Plan};
 use cv_desk::Office;
+use cv_edge::Gate;
 use cv_office::Named;
 use std::alloc::Global;
 use std::sync::Wait;

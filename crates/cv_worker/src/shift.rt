@@ -11,9 +11,10 @@ ghost use Rattle.cv_observe.specs.StandsFor.{StandsFor};
 ghost use Rattle.cv_worker.specs.Instances.{HasPostedRun, IsSame};
 ghost use Rattle.cv_worker.specs.Running.{MayRun};
 
-use crate::gate::{Gate, GateWatcher, Moment};
+use crate::watching::GateWatcher;
 use cv_base::{Mode, NoMemory, Plan};
 use cv_desk::{Office, Pass, Seated, Ticket, Unposted};
+use cv_edge::{Gate, Moment};
 use cv_exec::{Arena, Record, mode_of};
 use cv_observe::Summary;
 use cv_office::Named;

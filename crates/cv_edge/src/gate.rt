@@ -1,5 +1,4 @@
 //! Gates, which instances pass at some moments, so that tests can hold them there.
-use cv_patch::Watcher;
 use std::sync::Wait;
 
 /// When an instance passes a gate.
@@ -27,20 +26,4 @@ pub struct OpenGate;
 
 impl Gate for OpenGate {
     fn pass<R: Wait>(&self, _rt: &R, _worker: u32, _round: u32, _moment: Moment) {}
-}
-
-/// Passes a gate at each block entry of a live run.
-#[derive(Drop)]
-pub(crate) struct GateWatcher<'a, R: Wait, G: Gate> {
-    pub(crate) rt: &'a R,
-    pub(crate) gate: &'a G,
-    pub(crate) worker: u32,
-    pub(crate) round: u32,
-}
-
-impl<'a, R: Wait, G: Gate> Watcher for GateWatcher<'a, R, G> {
-    fn entry(&mut self, _turn: u32) {
-        self.gate
-            .pass(self.rt, self.worker, self.round, Moment::Entry);
-    }
 }
