@@ -1,13 +1,17 @@
 -- A pass stays seated.
-use Rattle.std.proofs.Common.{◌≡◌, ◌≤◌, ◌<◌, ◌+◌, ℕ, zero, suc, List, [], ◌∷◌, length, Some, None, sym, ap, ◌∙◌, subst, arith}
-use Rattle.std.specs.Prelude.{slice_get}
+use Rattle.std.proofs.Common.{◌≡◌, ◌≤◌, ◌<◌, ◌+◌, ℕ, zero, suc, List, [], ◌∷◌, length, Some, None, Ok, Err, sym, ap, ◌∙◌, subst, arith}
+use Rattle.std.specs.Prelude.{OnErr, Result, slice_get}
 use Rattle.std.specs.List.{range_with_len}
 use Rattle.std.proofs.lemmas.List.FromFn.{length-range_with_len}
 use Rattle.std.proofs.lemmas.Option.{same_Some}
+use Rattle.cv_desk.proofs.Telling.{prefix_get}
 use Rattle.cv_desk.specs.Openings.{SettingOf, opening_of}
-use Rattle.cv_desk.specs.Passes.{HasGrown, HasPosted, HasTicket, IsOf, IsPastRuns, IsSeated, Sight, TicketOf}
+use Rattle.cv_desk.specs.Passes.{HasGrown, HasPosted, HasTicket, IsOf, IsOutcome, IsPastRuns, IsSeated, Sight, TicketOf}
 use Rattle.cv_desk.specs.declared.making.Making.{Making}
+use Rattle.cv_exec.specs.LiveRun.{Span}
+use Rattle.cv_exec.specs.RecordOf.{RecordOf}
 use Rattle.cv_histories.specs.World.{numbers_of}
+use Rattle.cv_laws.proofs.Each.{weaker}
 use Rattle.cv_office.specs.Told.{IsPass}
 use Rattle.cv_rule.specs.Steps.{drawn, entered, worker_of}
 use Rattle.cv_rule.specs.declared.view.Opening.{Opening}
@@ -72,3 +76,32 @@ past_runs worker first count p q draw is same past = record {
   of = is.of;
   past = omega (arith, ap (λ (l : List ℕ). length l) is.numbers, length-range_with_len first count);
 }
+
+-- ---- a post that was refused
+
+has_again : (v w : Sight) (t : TicketOf) → HasGrown v w → HasTicket v t → HasTicket w t
+has_again v w t grown has = record {
+  hand =
+      subst (λ (r : Role). w.hand ≡ record { worker = worker_of r; draw = t.draw; floor = w.floor } ∷ []) (sym grown.role)
+      (subst (λ (n : ℕ). w.hand ≡ record { worker = worker_of v.role; draw = t.draw; floor = n } ∷ []) (sym grown.floor) (grown.hand ∙ has.hand));
+  setting = has.setting;
+  of = grown.opening ∙ has.of;
+  run = has.run;
+}
+
+outcome_again : (v w : Sight) (t : TicketOf) (r : RecordOf) → HasGrown v w → IsOutcome v t r → IsOutcome w t r
+outcome_again v w t r grown is = record {
+  setting = is.setting;
+  of = grown.opening ∙ is.of;
+  plan = is.plan;
+  run = is.run;
+  worker = is.worker ∙ sym (ap (λ (o : Role). worker_of o) grown.role);
+  loaded = is.loaded ∙ sym grown.loaded;
+  tables = weaker (λ (x : Span). slice_get v.known.versions x.version ≡ Some x.table) (λ (x : Span). slice_get w.known.versions x.version ≡ Some x.table)
+      (λ x at. prefix_get v.known.versions w.known.versions x.version x.table grown.versions at) r.adopted is.tables;
+}
+
+-- it can be tried again
+pub may_post_again : {A E : Type 0} (o : Result A E) (v w : Sight) (t : TicketOf) (r : RecordOf) → HasTicket v t → IsOutcome v t r → OnErr o (HasGrown v w) → OnErr o (HasTicket w t × IsOutcome w t r)
+may_post_again (Ok a) v w t r has is grown = tt
+may_post_again (Err e) v w t r has is grown = (has_again v w t grown has, outcome_again v w t r grown is)

@@ -43,6 +43,10 @@ module _ (s : SettingOf) (worker : ℕ) (v : Sight) (is : IsSeating s worker v) 
         waiting = (refl, refl);
         loaded = refl;
         posts = refl;
+        versions = ap (λ (k : Known Making Table). k.versions) is.known;
+        posted = ap (λ (k : Known Making Table). k.posted) is.known;
+        floor = ap (λ (k : Known Making Table). length k.versions - 1) is.known;
+        reach = ap (λ (k : Known Making Table). length k.versions - 1) is.known;
       })
 
 -- it is seated

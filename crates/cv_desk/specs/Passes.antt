@@ -3,11 +3,12 @@
 use Rattle.std.specs.Prelude.{◌≡◌, ◌<◌, ◌≤◌, ◌+◌, ℕ, List, true, nat_lt, [], ◌∷◌, ◌++◌, length, Option, Some, None, slice_get}
 use Rattle.std.specs.List.{AllByRecursion, list_any, range_with_len}
 use mathlib.Core.List.{IsPrefix}
-use Rattle.cv_desk.specs.Openings.{SettingOf, opening_of}
+use Rattle.cv_desk.specs.Openings.{SettingOf, opening_of, versions_of}
 use Rattle.cv_desk.specs.declared.making.Making.{Making}
 use Rattle.cv_exec.specs.LiveRun.{HaveTables}
 use Rattle.cv_exec.specs.RecordOf.{RecordOf}
 use Rattle.cv_histories.specs.Rows.{written}
+use Rattle.cv_histories.specs.Versions.{newest}
 use Rattle.cv_histories.specs.World.{numbers_of}
 use Rattle.cv_office.specs.Told.{IsPass, IsWaiting}
 use Rattle.cv_rule.specs.Counts.{entry_with}
@@ -118,13 +119,17 @@ kept_of v = record { role = v.role; opening = v.known.opening; hand = v.hand; fl
 
 -- ---- the passes of an office
 
--- the pass of a worker, as it is made
+-- the pass of a worker, as it is made: it knows the versions at the making, and can enter none below the newest of them
 pub record IsNew (s : SettingOf) (worker : ℕ) (v : Sight) : Type 0 where
   pub of : IsOf s v
   pub role : IsOfWorker worker v
   pub waiting : IsWaiting v
   pub loaded : v.loaded ≡ []
   pub posts : v.posts ≡ []
+  pub versions : v.known.versions ≡ versions_of s
+  pub posted : v.known.posted ≡ []
+  pub floor : v.floor ≡ newest s.plan s.past
+  pub reach : v.reach ≡ newest s.plan s.past
 
 -- one pass for each worker from a number on, in order
 abbrev pub AreNew : SettingOf → ℕ → List Sight → Type 0

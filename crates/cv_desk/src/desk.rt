@@ -70,7 +70,8 @@ impl<N: Named> Desk<N> {
         ensures pass { IsPass pass.new.me.0 }
         ensures grown { HasGrown pass.old.me.0 pass.new.me.0 }
         ensures known { version < length pass.new.me.0.known.versions }
-        ensures table { IfOk result (λ t. slice_get pass.new.me.0.known.versions version ≡ Some t.value) }
+        ensures table { IfOk result (λ t. slice_get (ledger_in self.old).versions version ≡ Some t.value) }
+        ensures found { IfOk result (λ t. slice_get pass.new.me.0.known.versions version ≡ Some t.value) }
     {
         hear(board, &mut self.seat, pass);
         let table = table_of(&self.book, version);

@@ -134,7 +134,7 @@ impl<N: Named> Pass<N> {
     /// is of the plan's text and, for a learn run, of that run. It takes the lock, and may wait.
     ///
     /// Where memory is refused the ticket and the record come back, and what the pass has in hand, its
-    /// loaded versions, floor and posts are as they were.
+    /// loaded versions, floor and posts are as they were: the same can be posted again.
     pub fn post<R: Wait>(
         &mut self,
         rt: &R,
@@ -150,6 +150,7 @@ impl<N: Named> Pass<N> {
         requires seen { is_live outcome.entry.mode ≡ false → StandsFor summary.now (observed_of outcome.plan (run_at outcome.plan outcome.entry.run)) }
         ensures posted { OnOk result (HasPosted ticket.draw self.old self.new) }
         ensures as_before { OnErr result (HasGrown self.old self.new) }
+        ensures again { OnErr result (HasTicket self.new ticket × IsOutcome self.new ticket outcome) }
         ensures handed_back { IfErr result (λ unposted. (unposted.ticket ≡ ticket) × (unposted.outcome ≡ outcome)) }
     {
         office.desk.lock(rt).post(
