@@ -1,4 +1,6 @@
+pub mod Against
 pub mod Commands
+pub mod Early
 pub mod Fetching
 pub mod Inferring
 pub mod Inputs

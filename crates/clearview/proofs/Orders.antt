@@ -1,5 +1,5 @@
 -- What is said of the commands whose runs are posted to a book.
-use Rattle.std.proofs.Common.{◌≡◌, ℕ, ◌≢◌, false, if◌then◌else◌, Bool, true, List, ◌∷◌, [], length, map, codes, option_and_then, option_map, Option, Some, None, Ok, Err, IfSome, inl, inr, refl, sym, ap, ◌∙◌, string_bytes}
+use Rattle.std.proofs.Common.{◌≡◌, ℕ, ◌≢◌, false, if◌then◌else◌, Bool, true, List, ◌∷◌, [], length, map, codes, option_and_then, option_map, Option, Some, None, Result, Ok, Err, IfSome, inl, inr, refl, sym, ap, ◌∙◌, string_bytes}
 use Rattle.std.specs.Str.{bytes_eq}
 use Rattle.std.specs.declared.string.String.{String}
 use Rattle.std.specs.declared.alloc.Global.{Global}
@@ -7,13 +7,11 @@ use Rattle.cv_base.specs.declared.entries.Entry.{Entry}
 use Rattle.cv_base.specs.PlanOf.{PlanOf}
 use Rattle.cv_edge.specs.Edge.{Held}
 use Rattle.cv_histories.specs.OtherTexts.{drill_text}
-use Rattle.cv_histories.specs.Report.{report}
-use Rattle.cv_histories.specs.Serial.{serial}
 use Rattle.clearview.specs.declared.cause.Cause.{Cause}
 use Rattle.clearview.specs.declared.words.Order.{Order}
 use Rattle.clearview.specs.declared.words.Order.TheVariants as order
 use Rattle.clearview.specs.Gives.{Gives, GivesText}
-use Rattle.clearview.specs.Verdict.{book_text, drilled, plan_asked, verdict_by}
+use Rattle.clearview.specs.Verdict.{book_text, drilled, files_for, plan_asked, plan_in, told_files, verdict_by}
 use Rattle.clearview.specs.Views.{order_view}
 use Rattle.clearview.specs.Words.{Drill, command_of, drill_number, drill_of, drill_runs, keeps_book}
 
@@ -47,26 +45,29 @@ no_others (a ∷ b ∷ c ∷ d ∷ e ∷ rest) two four none = refl
 
 -- ---- texts
 
-same_text : (text : PlanOf → List Entry → List ℕ) (wanted plan : PlanOf) (past : List Entry) (s : String Global)
-    → wanted ≡ plan → past ≡ serial plan → string_bytes s ≡ text plan past
-    → text wanted (serial wanted) ≡ string_bytes s
-same_text text wanted plan past s same taken written = ap (λ p. text p (serial p)) same ∙ ap (text plan) (sym taken) ∙ sym written
-
 pub order_ran : (told : Option Held) (o : Order) (plan : PlanOf) (past : List Entry) (s : String Global)
-    → IfSome told (λ held. Gives (plan_asked (Some (order_view o)) held.file) (Ok plan))
-    → past ≡ serial plan
+    → IfSome (files_for (Some (order_view o)) told) (λ file. Gives (plan_asked (Some (order_view o)) file) (Ok plan))
     → string_bytes s ≡ book_text (Some (order_view o)) plan past
-    → IfSome told (λ held. GivesText (verdict_by (Some (order_view o)) held.file) (Ok s))
-order_ran None o plan past s gives taken text = tt
-order_ran (Some held) (order.Run job) plan past s gives taken text = rw (gives) (ap (λ (l : List ℕ). Ok l) (same_text report plan plan past s refl taken text))
-order_ran (Some held) (order.Drill number runs) plan past s gives taken text =
-    let same : drilled number runs ≡ plan = cc in ap (λ (l : List ℕ). Ok l) (same_text drill_text (drilled number runs) plan past s same taken text)
+    → IfSome (files_for (Some (order_view o)) told) (λ file. GivesText (verdict_by (Some (order_view o)) file past) (Ok s))
+order_ran None (order.Run job) plan past s gives text = tt
+order_ran (Some held) (order.Run job) plan past s gives text = rw (gives) (ap (λ (l : List ℕ). Ok l) (sym text))
+order_ran told (order.Drill number runs) plan past s gives text =
+    let same : drilled number runs ≡ plan = cc in ap (λ (l : List ℕ). Ok l) (ap (λ p. drill_text p past) same ∙ sym text)
 
 pub order_against : (told : Option Held) (o : Order) (c : Cause)
-    → IfSome told (λ held. Gives (plan_asked (Some (order_view o)) held.file) (Err c))
-    → IfSome told (λ held. GivesText (verdict_by (Some (order_view o)) held.file) (Err c))
-order_against None o c gives = tt
+    → IfSome (files_for (Some (order_view o)) told) (λ file. Gives (plan_asked (Some (order_view o)) file) (Err c))
+    → IfSome (files_for (Some (order_view o)) told) (λ file. GivesText (verdict_by (Some (order_view o)) file []) (Err c))
+order_against None (order.Run job) c gives = tt
 order_against (Some held) (order.Run job) c (inl e) = inl (rw e refl)
 order_against (Some held) (order.Run job) c (inr free) = inr free
-order_against (Some held) (order.Drill number runs) c (inl e) = absurd (cc e)
-order_against (Some held) (order.Drill number runs) c (inr free) = inr free
+order_against told (order.Drill number runs) c (inl e) = absurd (cc e)
+order_against told (order.Drill number runs) c (inr free) = inr free
+
+-- ---- plans
+
+-- the plan of a job that a store tells
+pub plan_told : (told : Option Held) (job : List ℕ) (r : Result PlanOf Cause)
+    → IfSome told (λ held. Gives (plan_in held.file job) r)
+    → IfSome (told_files told) (λ file. Gives (plan_in file job) r)
+plan_told None job r gives = tt
+plan_told (Some held) job r gives = gives

@@ -1,9 +1,10 @@
 -- How a call ends, against what it has to come to (docs/FORMATS.md, "Causes and statuses").
-use Rattle.std.specs.Prelude.{◌≡◌, ℕ, List, Option, Ok, Err, ◌⊎◌}
+use Rattle.std.specs.Prelude.{◌≡◌, ℕ, Bool, true, ◌||◌, List, Option, Ok, Err, ◌⊎◌}
 use Rattle.cv_edge.specs.Edge.{Appends, AppendsPrefix, Keeps}
 use Rattle.clearview.specs.declared.cause.Cause.{Cause}
 use Rattle.clearview.specs.declared.cause.Cause.TheVariants as cause
 use Rattle.clearview.specs.Verdict.{Verdict}
+use Rattle.clearview.specs.Words.{Reads}
 
 abbrev pub status_of : Cause → ℕ
 status_of cause.Done = 0
@@ -18,6 +19,21 @@ status_of (cause.AsmRefused f) = 8
 status_of cause.NoMemory = 5
 status_of cause.StoreFault = 6
 status_of cause.SinkFault = 7
+
+-- a cause against a file comes to a command that reads such a file
+abbrev pub concerns : Reads → Cause → Bool
+concerns r cause.Done = true
+concerns r cause.Usage = true
+concerns r cause.FileMissing = r.job || r.image || r.source
+concerns r cause.JobLong = r.job
+concerns r (cause.JobRefused f) = r.job
+concerns r cause.ImageLong = r.image
+concerns r (cause.ImageRefused f) = r.image
+concerns r cause.AsmLong = r.source
+concerns r (cause.AsmRefused f) = r.source
+concerns r cause.NoMemory = true
+concerns r cause.StoreFault = r.job || r.image || r.source
+concerns r cause.SinkFault = true
 
 -- want of memory, and a fault of the store, which has a clause of its own
 abbrev pub IsFree : Cause → Type 0

@@ -7,6 +7,7 @@ use Rattle.cv_asm.specs.Listing.{listing_of}
 use Rattle.cv_asm.specs.Source.{source_of}
 use Rattle.cv_base.specs.declared.image.ImageFault.{ImageFault}
 use Rattle.cv_base.specs.Picture.{Picture}
+use Rattle.cv_edge.specs.Edge.{Held}
 use Rattle.cv_elf.specs.ElfReading.{elf_reading}
 use Rattle.cv_image.specs.FlatReading.{flat_reading}
 use Rattle.cv_job.specs.JobOf.{JobOf, plan_of}
@@ -18,11 +19,10 @@ use Rattle.cv_base.specs.declared.entries.Entry.{Entry}
 use Rattle.cv_histories.specs.DrillPlan.{drill_plan}
 use Rattle.cv_histories.specs.OtherTexts.{drill_text, infer_text}
 use Rattle.cv_histories.specs.Report.{report}
-use Rattle.cv_histories.specs.Serial.{serial}
 use Rattle.clearview.specs.CheckText.{check_text}
 use Rattle.clearview.specs.declared.cause.Cause.{Cause}
 use Rattle.clearview.specs.declared.cause.Cause.TheVariants as cause
-use Rattle.clearview.specs.Words.{Command, Plain, Check, Infer, Run, Drill, Asm, Listing, command_of}
+use Rattle.clearview.specs.Words.{Command, Plain, Check, Infer, Run, Drill, Asm, Listing}
 
 abbrev pub Verdict : Type 0
 Verdict = Result (List ℕ) Cause
@@ -79,28 +79,32 @@ plan_asked (Some (Run job)) file = plan_in file job
 plan_asked (Some (Drill number runs)) file = Ok (drilled number runs)
 plan_asked _ file = Err cause.Usage
 
--- the plan of a drill, which no file tells
-abbrev pub plan_drilled : Option Command → Option PlanOf
-plan_drilled (Some (Drill number runs)) = Some (drilled number runs)
-plan_drilled _ = None
-
 -- what such a command writes of its plan and of the history of all runs
 abbrev pub book_text : Option Command → PlanOf → List Entry → List ℕ
 book_text (Some (Run job)) plan past = report plan past
 book_text (Some (Drill number runs)) plan past = drill_text plan past
 book_text _ plan past = []
 
-abbrev pub verdict_by : Option Command → (List ℕ → Option (List ℕ)) → Verdict
-verdict_by None file = Err cause.Usage
-verdict_by (Some (Plain image budget input)) file =
-    and_then (image_in (file image)) (λ (picture : Picture). Ok (plain_text picture input budget))
-verdict_by (Some (Check job)) file = and_then (plan_in file job) (λ (plan : PlanOf). Ok (check_text plan))
-verdict_by (Some (Infer job)) file = and_then (plan_in file job) (λ (plan : PlanOf). Ok (infer_text plan))
-verdict_by (Some (Run job)) file = and_then (plan_in file job) (λ (plan : PlanOf). Ok (report plan (serial plan)))
-verdict_by (Some (Drill number runs)) file = Ok (drill_text (drilled number runs) (serial (drilled number runs)))
-verdict_by (Some (Asm source)) file = and_then (source_in (file source)) (λ words. Ok (flat_map (spelled 4) words))
-verdict_by (Some (Listing image)) file =
-    and_then (image_in (file image)) (λ (picture : Picture). Ok (listing_of picture.words))
+-- the files that a store tells
+abbrev pub told_files : Option Held → Option (List ℕ → Option (List ℕ))
+told_files None = None
+told_files (Some held) = Some held.file
 
-abbrev pub verdict_of : List (List ℕ) → (List ℕ → Option (List ℕ)) → Verdict
-verdict_of words file = verdict_by (command_of words) file
+-- the files, as far as they matter to a command: one that names none has none to wait for
+abbrev pub files_for : Option Command → Option Held → Option (List ℕ → Option (List ℕ))
+files_for None told = Some (λ name. None)
+files_for (Some (Drill number runs)) told = Some (λ name. None)
+files_for _ told = told_files told
+
+-- what a command has to come to, where the history of its runs, if it posts any, is `past`
+abbrev pub verdict_by : Option Command → (List ℕ → Option (List ℕ)) → List Entry → Verdict
+verdict_by None file past = Err cause.Usage
+verdict_by (Some (Plain image budget input)) file past =
+    and_then (image_in (file image)) (λ (picture : Picture). Ok (plain_text picture input budget))
+verdict_by (Some (Check job)) file past = and_then (plan_in file job) (λ (plan : PlanOf). Ok (check_text plan))
+verdict_by (Some (Infer job)) file past = and_then (plan_in file job) (λ (plan : PlanOf). Ok (infer_text plan))
+verdict_by (Some (Run job)) file past = and_then (plan_in file job) (λ (plan : PlanOf). Ok (report plan past))
+verdict_by (Some (Drill number runs)) file past = Ok (drill_text (drilled number runs) past)
+verdict_by (Some (Asm source)) file past = and_then (source_in (file source)) (λ words. Ok (flat_map (spelled 4) words))
+verdict_by (Some (Listing image)) file past =
+    and_then (image_in (file image)) (λ (picture : Picture). Ok (listing_of picture.words))

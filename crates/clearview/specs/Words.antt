@@ -89,6 +89,34 @@ files_named (Some (Drill number runs)) = 0
 files_named (Some (Asm source)) = 1
 files_named (Some (Listing image)) = 1
 
+-- what a command reads: a job, an image, a source
+pub record Reads : Type 0 where
+  pub job : Bool
+  pub image : Bool
+  pub source : Bool
+
+abbrev pub nothing : Reads
+nothing = record { job = false; image = false; source = false }
+
+abbrev pub an_image : Reads
+an_image = record { job = false; image = true; source = false }
+
+abbrev pub a_plan : Reads
+a_plan = record { job = true; image = true; source = false }
+
+abbrev pub a_source : Reads
+a_source = record { job = false; image = false; source = true }
+
+abbrev pub reads_of : Option Command → Reads
+reads_of None = nothing
+reads_of (Some (Plain image budget input)) = an_image
+reads_of (Some (Check job)) = a_plan
+reads_of (Some (Infer job)) = a_plan
+reads_of (Some (Run job)) = a_plan
+reads_of (Some (Drill number runs)) = nothing
+reads_of (Some (Asm source)) = a_source
+reads_of (Some (Listing image)) = an_image
+
 -- an input has at most 65,536 bytes, and a drill 1 to 1,022 live runs
 abbrev pub IsShort : Command → Type 0
 IsShort (Plain image budget input) = length input ≤ 65536

@@ -1,8 +1,8 @@
-ghost use Rattle.std.specs.Prelude.{◌≡◌, Some, IfErr, IfSome, IsErrOf};
+ghost use Rattle.std.specs.Prelude.{◌≡◌, [], Some, IfErr, IfSome, IsErrOf};
 ghost use Rattle.cv_edge.specs.Edge.{FetchesOnce, HasCause};
 ghost use Rattle.clearview.specs.Gives.{Gives, IsEarly};
-ghost use Rattle.clearview.specs.Verdict.{verdict_by};
-ghost use Rattle.clearview.specs.Words.{Asm};
+ghost use Rattle.clearview.specs.Verdict.{told_files, verdict_by};
+ghost use Rattle.clearview.specs.Words.{Asm, a_source};
 
 use crate::cause::Cause;
 use crate::files::source_words;
@@ -15,8 +15,8 @@ use std::alloc::Global;
 /// against them (docs/FORMATS.md, "Assembly"). It fetches once.
 #[tactic(auto, using(crate::proofs::Commands::asm_ran, crate::proofs::Commands::asm_against))]
 pub fn asm<S: Store>(alloc: Global, store: &mut S, source: &str) -> Result<Items<u8>, Cause>
-    ensures gives { IfSome (S.told store.old) (λ held. Gives (verdict_by (Some (Asm source.now)) held.file) result) }
-    ensures early { IfErr result IsEarly }
+    ensures gives { IfSome (told_files (S.told store.old)) (λ file. Gives (verdict_by (Some (Asm source.now)) file []) result) }
+    ensures early { IfErr result (λ c. IsEarly a_source c) }
     ensures fault { HasCause (S.faults store.old) (S.faults store.new) (IsErrOf result Cause.StoreFault) }
     ensures fetches { FetchesOnce (S.told store.old) (S.told store.new) }
 {

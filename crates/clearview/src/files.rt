@@ -1,8 +1,9 @@
 ghost use Rattle.std.specs.Prelude.{◌≡◌, ◌≢◌, ◌≤◌, length, IfErr, IfOk, IfSome, IsErrOf};
 ghost use Rattle.cv_asm.specs.Source.{source_of};
 ghost use Rattle.cv_edge.specs.Edge.{FetchesOnce, FetchesUpTo, HasCause};
-ghost use Rattle.clearview.specs.Gives.{Gives, IsEarly, bytes_in, plan_by};
+ghost use Rattle.clearview.specs.Gives.{Gives, IsEarly, IsUnread, bytes_in, plan_by};
 ghost use Rattle.clearview.specs.Verdict.{image_in, image_reading, job_in, plan_in, refused, source_in};
+ghost use Rattle.clearview.specs.Words.{a_plan, a_source, an_image};
 ghost use Rattle.clearview.specs.declared.cause.Cause.TheVariants as cause;
 
 use crate::cause::Cause;
@@ -28,7 +29,7 @@ const SOURCE_LIMIT: u32 = 4_194_304;
 #[tactic(auto, using(crate::proofs::Fetching::plan_went_on, crate::proofs::Fetching::plan_stopped, crate::proofs::Commands::fetches_more, crate::proofs::Commands::fetches_twice))]
 pub fn plan_of<S: Store>(alloc: Global, store: &mut S, name: &str) -> Result<Plan, Cause>
     ensures gives { IfSome (S.told store.old) (λ held. Gives (plan_in held.file name.now) result) }
-    ensures early { IfErr result IsEarly }
+    ensures early { IfErr result (λ c. IsEarly a_plan c) }
     ensures fault { HasCause (S.faults store.old) (S.faults store.new) (IsErrOf result Cause.StoreFault) }
     ensures fetches { FetchesUpTo 2 (S.told store.old) (S.told store.new) }
 {
@@ -37,10 +38,10 @@ pub fn plan_of<S: Store>(alloc: Global, store: &mut S, name: &str) -> Result<Pla
 }
 
 /// The plan of a job, whose image is fetched by its name, or the cause against it.
-#[tactic(auto, using(crate::proofs::Fetching::plan_made, crate::proofs::Fetching::plan_against))]
+#[tactic(auto, using(crate::proofs::Fetching::plan_made, crate::proofs::Fetching::plan_against, crate::proofs::Early::image_of_plan))]
 fn job_plan<S: Store>(alloc: Global, store: &mut S, job: Job) -> Result<Plan, Cause>
     ensures gives { IfSome (S.told store.old) (λ held. Gives (plan_by job held.file) result) }
-    ensures early { IfErr result IsEarly }
+    ensures early { IfErr result (λ c. IsEarly a_plan c) }
     ensures fault { HasCause (S.faults store.old) (S.faults store.new) (IsErrOf result Cause.StoreFault) }
     ensures fetches { FetchesOnce (S.told store.old) (S.told store.new) }
 {
@@ -50,10 +51,10 @@ fn job_plan<S: Store>(alloc: Global, store: &mut S, job: Job) -> Result<Plan, Ca
 
 /// The image that a file holds, or the cause against it (docs/FORMATS.md, "Causes and statuses").
 /// It fetches once.
-#[tactic(auto, using(crate::proofs::Fetching::image_read, crate::proofs::Fetching::image_unread))]
+#[tactic(auto, using(crate::proofs::Fetching::image_read, crate::proofs::Fetching::image_unread, crate::proofs::Early::unread_image))]
 pub fn image_of<S: Store>(alloc: Global, store: &mut S, name: &str) -> Result<Image, Cause>
     ensures gives { IfSome (S.told store.old) (λ held. Gives (image_in (held.file name.now)) result) }
-    ensures early { IfErr result IsEarly }
+    ensures early { IfErr result (λ c. IsEarly an_image c) }
     ensures fault { HasCause (S.faults store.old) (S.faults store.new) (IsErrOf result Cause.StoreFault) }
     ensures fetches { FetchesOnce (S.told store.old) (S.told store.new) }
 {
@@ -63,10 +64,10 @@ pub fn image_of<S: Store>(alloc: Global, store: &mut S, name: &str) -> Result<Im
 
 /// The job that a file holds, or the cause against it (docs/FORMATS.md, "Causes and statuses"). It
 /// fetches once.
-#[tactic(auto, using(crate::proofs::Fetching::job_read, crate::proofs::Fetching::job_unread))]
+#[tactic(auto, using(crate::proofs::Fetching::job_read, crate::proofs::Fetching::job_unread, crate::proofs::Early::unread_job))]
 pub fn job_of<S: Store>(alloc: Global, store: &mut S, name: &str) -> Result<Job, Cause>
     ensures gives { IfSome (S.told store.old) (λ held. Gives (job_in (held.file name.now)) result) }
-    ensures early { IfErr result IsEarly }
+    ensures early { IfErr result (λ c. IsEarly a_plan c) }
     ensures fault { HasCause (S.faults store.old) (S.faults store.new) (IsErrOf result Cause.StoreFault) }
     ensures fetches { FetchesOnce (S.told store.old) (S.told store.new) }
 {
@@ -76,10 +77,10 @@ pub fn job_of<S: Store>(alloc: Global, store: &mut S, name: &str) -> Result<Job,
 
 /// The words of the source that a file holds, or the cause against them (docs/FORMATS.md, "Causes
 /// and statuses"). It fetches once.
-#[tactic(auto, using(crate::proofs::Fetching::source_read, crate::proofs::Fetching::source_unread))]
+#[tactic(auto, using(crate::proofs::Fetching::source_read, crate::proofs::Fetching::source_unread, crate::proofs::Early::unread_source))]
 pub fn source_words<S: Store>(alloc: Global, store: &mut S, name: &str) -> Result<Items<u32>, Cause>
     ensures gives { IfSome (S.told store.old) (λ held. Gives (source_in (held.file name.now)) result) }
-    ensures early { IfErr result IsEarly }
+    ensures early { IfErr result (λ c. IsEarly a_source c) }
     ensures fault { HasCause (S.faults store.old) (S.faults store.new) (IsErrOf result Cause.StoreFault) }
     ensures fetches { FetchesOnce (S.told store.old) (S.told store.new) }
 {
@@ -95,11 +96,10 @@ fn bytes_of<S: Store>(
     limit: u32,
     longer: Cause,
 ) -> Result<Items<u8>, Cause>
-    requires early { IsEarly longer }
     requires refusal { longer ≢ Cause.StoreFault }
     ensures gives { IfSome (S.told store.old) (λ held. Gives (bytes_in limit longer (held.file name.now)) result) }
     ensures few { IfOk result (λ bytes. length bytes ≤ limit) }
-    ensures early { IfErr result IsEarly }
+    ensures early { IfErr result (λ c. IsUnread longer c) }
     ensures fault { HasCause (S.faults store.old) (S.faults store.new) (IsErrOf result Cause.StoreFault) }
     ensures fetches { FetchesOnce (S.told store.old) (S.told store.new) }
 {
@@ -114,7 +114,7 @@ fn bytes_of<S: Store>(
 /// words.
 fn read_image(alloc: Global, bytes: &[u8]) -> Result<Image, Cause>
     ensures gives { Gives (refused (λ f. Cause.ImageRefused f) (image_reading bytes.now)) result }
-    ensures early { IfErr result IsEarly }
+    ensures early { IfErr result (λ c. IsEarly an_image c) }
     ensures refusal { IfErr result (λ c. c ≢ Cause.StoreFault) }
 {
     if bytes.starts_with(&[0x7f, 0x45, 0x4c, 0x46]) {
@@ -128,7 +128,7 @@ fn read_image(alloc: Global, bytes: &[u8]) -> Result<Image, Cause>
 fn read_source(alloc: Global, text: &[u8]) -> Result<Items<u32>, Cause>
     requires { length text.now ≤ 4194304 }
     ensures gives { Gives (refused (λ f. Cause.AsmRefused f) (source_of text.now)) result }
-    ensures early { IfErr result IsEarly }
+    ensures early { IfErr result (λ c. IsEarly a_source c) }
     ensures refusal { IfErr result (λ c. c ≢ Cause.StoreFault) }
 {
     let words = assemble(alloc, text)?;

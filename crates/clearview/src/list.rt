@@ -1,9 +1,9 @@
-ghost use Rattle.std.specs.Prelude.{◌≡◌, Some, IfErr, IfOk, IfSome, IsErrOf};
+ghost use Rattle.std.specs.Prelude.{◌≡◌, [], Some, IfErr, IfOk, IfSome, IsErrOf};
 ghost use Rattle.cv_asm.specs.Listing.{listing_of};
 ghost use Rattle.cv_edge.specs.Edge.{FetchesOnce, HasCause};
 ghost use Rattle.clearview.specs.Gives.{Gives, IsEarly};
-ghost use Rattle.clearview.specs.Verdict.{verdict_by};
-ghost use Rattle.clearview.specs.Words.{Listing};
+ghost use Rattle.clearview.specs.Verdict.{told_files, verdict_by};
+ghost use Rattle.clearview.specs.Words.{Listing, an_image};
 
 use crate::cause::Cause;
 use crate::files::image_of;
@@ -16,8 +16,8 @@ use std::alloc::Global;
 /// them (docs/FORMATS.md, "Assembly"). It fetches once.
 #[tactic(auto, using(crate::proofs::Commands::list_ran, crate::proofs::Commands::list_against))]
 pub fn list<S: Store>(alloc: Global, store: &mut S, image: &str) -> Result<Items<u8>, Cause>
-    ensures gives { IfSome (S.told store.old) (λ held. Gives (verdict_by (Some (Listing image.now)) held.file) result) }
-    ensures early { IfErr result IsEarly }
+    ensures gives { IfSome (told_files (S.told store.old)) (λ file. Gives (verdict_by (Some (Listing image.now)) file []) result) }
+    ensures early { IfErr result (λ c. IsEarly an_image c) }
     ensures fault { HasCause (S.faults store.old) (S.faults store.new) (IsErrOf result Cause.StoreFault) }
     ensures fetches { FetchesOnce (S.told store.old) (S.told store.new) }
 {

@@ -16,7 +16,7 @@ mod words;
 
 use cause::Cause;
 use clearview::clearview;
-use cv_edge::{FileStore, StdSink};
+use cv_edge::{FileStore, OpenGate, StdSink};
 use std::io::ErrorKind;
 use std::process::ExitCode;
 use std::{env, io};
@@ -26,7 +26,8 @@ fn main(rt: HostRuntime) -> ExitCode {
         Ok(words) => {
             let mut store = FileStore::over(&rt);
             let mut sink = StdSink::over(rt.stdout());
-            clearview(rt.alloc(), words.as_slice(), &mut store, &mut sink).cause
+            let words = words.as_slice();
+            clearview(&rt, rt.alloc(), words, &mut store, &mut sink, &OpenGate).cause
         }
         Err(cause) => cause,
     };

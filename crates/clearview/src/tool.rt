@@ -1,10 +1,11 @@
-ghost use Rattle.std.specs.Prelude.{◌≡◌, ◌≢◌, ◌⊎◌, ◌↔◌, ◌≤◌, Ok, Some, None, false, length, map, string_bytes, IfErr, IfSome, IsErrOf};
+ghost use Rattle.std.specs.Prelude.{◌≡◌, [], ◌≢◌, ◌⊎◌, ◌↔◌, ◌≤◌, Ok, Some, None, false, length, map, string_bytes, IfErr, IfSome, IsErrOf, IsTrue};
 ghost use Rattle.cv_edge.specs.Edge.{FetchesOnce, FetchesUpTo, HasCause, Rose};
-ghost use Rattle.clearview.specs.Causes.{status_of, Completes, Ends, Writes, Silent};
+ghost use Rattle.clearview.specs.Causes.{status_of, concerns, Completes, Ends, Silent, Writes};
 ghost use Rattle.clearview.specs.Gives.{Gives, IsEarly};
-ghost use Rattle.clearview.specs.Verdict.{verdict_of, verdict_by};
+ghost use Rattle.clearview.specs.Headline.{Comes, outside};
+ghost use Rattle.clearview.specs.Verdict.{files_for, told_files, verdict_by};
 ghost use Rattle.clearview.specs.Views.{command_view};
-ghost use Rattle.clearview.specs.Words.{command_of, files_named, keeps_book, IsShort, Plain, Check, Infer};
+ghost use Rattle.clearview.specs.Words.{command_of, a_plan, an_image, files_named, keeps_book, reads_of, IsShort, Plain, Check, Infer};
 
 use crate::asm::asm;
 use crate::cause::{Cause, Finish};
@@ -29,23 +30,37 @@ pub fn tool<S: Store, K: Sink>(
     requires { keeps_book (command_of (map string_bytes words.now)) ≡ false }
     ensures none { result.book ≡ None }
     ensures status { result.status ≡ status_of result.cause }
-    ensures usage { (result.cause ≡ Cause.Usage) ↔ (command_of (map string_bytes words.now) ≡ None) }
-    ensures cause { IfSome (S.told store.old) (λ held. Ends (verdict_of (map string_bytes words.now) held.file) result.cause) }
-    ensures text { IfSome (S.told store.old) (λ held. Writes (verdict_of (map string_bytes words.now) held.file) result.cause (K.written sink.old) (K.written sink.new)) }
-    ensures complete { IfSome (S.told store.old) (λ held. Completes (verdict_of (map string_bytes words.now) held.file) (Rose (S.faults store.old) (S.faults store.new)) (Rose (K.faults sink.old) (K.faults sink.new)) result.cause) }
-    ensures silent { Silent result.cause (K.written sink.old) (K.written sink.new) }
-    ensures store_fault { HasCause (S.faults store.old) (S.faults store.new) (result.cause ≡ Cause.StoreFault) }
-    ensures sink_fault { HasCause (K.faults sink.old) (K.faults sink.new) (result.cause ≡ Cause.SinkFault) }
-    ensures fetches { FetchesUpTo (files_named (command_of (map string_bytes words.now))) (S.told store.old) (S.told store.new) }
+    ensures comes { Comes (command_of (map string_bytes words.now)) (outside (S.told store.old) (S.faults store.old) (K.written sink.old) (K.faults sink.old)) (outside (S.told store.new) (S.faults store.new) (K.written sink.new) (K.faults sink.new)) result.cause result.book }
 {
-    let cause = match text_of(alloc, words, store) {
-        Ok(text) => written(sink, text.as_slice()),
-        Err(cause) => cause,
-    };
+    let cause = carried_out(alloc, words, store, sink);
     Finish {
         status: cause.status(),
         cause,
         book: None,
+    }
+}
+
+/// Does such a command: how it ended.
+fn carried_out<S: Store, K: Sink>(
+    alloc: Global,
+    words: &[String],
+    store: &mut S,
+    sink: &mut K,
+) -> Cause
+    requires { keeps_book (command_of (map string_bytes words.now)) ≡ false }
+    ensures usage { (result ≡ Cause.Usage) ↔ (command_of (map string_bytes words.now) ≡ None) }
+    ensures reads { IsTrue (concerns (reads_of (command_of (map string_bytes words.now))) result) }
+    ensures ends { IfSome (files_for (command_of (map string_bytes words.now)) (S.told store.old)) (λ file. Ends (verdict_by (command_of (map string_bytes words.now)) file []) result) }
+    ensures writes { IfSome (files_for (command_of (map string_bytes words.now)) (S.told store.old)) (λ file. Writes (verdict_by (command_of (map string_bytes words.now)) file []) result (K.written sink.old) (K.written sink.new)) }
+    ensures complete { IfSome (files_for (command_of (map string_bytes words.now)) (S.told store.old)) (λ file. Completes (verdict_by (command_of (map string_bytes words.now)) file []) (Rose (S.faults store.old) (S.faults store.new)) (Rose (K.faults sink.old) (K.faults sink.new)) result) }
+    ensures silent { Silent result (K.written sink.old) (K.written sink.new) }
+    ensures store_fault { HasCause (S.faults store.old) (S.faults store.new) (result ≡ Cause.StoreFault) }
+    ensures sink_fault { HasCause (K.faults sink.old) (K.faults sink.new) (result ≡ Cause.SinkFault) }
+    ensures fetches { FetchesUpTo (files_named (command_of (map string_bytes words.now))) (S.told store.old) (S.told store.new) }
+{
+    match text_of(alloc, words, store) {
+        Ok(text) => written(sink, text.as_slice()),
+        Err(cause) => cause,
     }
 }
 
@@ -65,9 +80,10 @@ pub(crate) fn written<K: Sink>(sink: &mut K, text: &[u8]) -> Cause
 #[tactic(auto, using(crate::proofs::Commands::fetches_none))]
 fn text_of<S: Store>(alloc: Global, words: &[String], store: &mut S) -> Result<Items<u8>, Cause>
     requires { keeps_book (command_of (map string_bytes words.now)) ≡ false }
-    ensures gives { IfSome (S.told store.old) (λ held. Gives (verdict_of (map string_bytes words.now) held.file) result) }
+    ensures gives { IfSome (files_for (command_of (map string_bytes words.now)) (S.told store.old)) (λ file. Gives (verdict_by (command_of (map string_bytes words.now)) file []) result) }
     ensures usage { IsErrOf result Cause.Usage ↔ (command_of (map string_bytes words.now) ≡ None) }
     ensures done { IfErr result (λ c. (c ≢ Cause.Done) × (c ≢ Cause.SinkFault)) }
+    ensures reads { IfErr result (λ c. IsTrue (concerns (reads_of (command_of (map string_bytes words.now))) c)) }
     ensures fault { HasCause (S.faults store.old) (S.faults store.new) (IsErrOf result Cause.StoreFault) }
     ensures fetches { FetchesUpTo (files_named (command_of (map string_bytes words.now))) (S.told store.old) (S.told store.new) }
 {
@@ -84,8 +100,8 @@ fn command_text<S: Store>(
     store: &mut S,
 ) -> Result<Items<u8>, Cause>
     requires { IsShort (command_view command.now) }
-    ensures gives { IfSome (S.told store.old) (λ held. Gives (verdict_by (Some (command_view command.now)) held.file) result) }
-    ensures early { IfErr result IsEarly }
+    ensures gives { IfSome (files_for (Some (command_view command.now)) (S.told store.old)) (λ file. Gives (verdict_by (Some (command_view command.now)) file []) result) }
+    ensures early { IfErr result (λ c. IsEarly (reads_of (Some (command_view command.now))) c) }
     ensures fault { HasCause (S.faults store.old) (S.faults store.new) (IsErrOf result Cause.StoreFault) }
     ensures fetches { FetchesUpTo (files_named (Some (command_view command.now))) (S.told store.old) (S.told store.new) }
 {
@@ -111,8 +127,8 @@ fn plain<S: Store>(
     input: &[u8],
 ) -> Result<Items<u8>, Cause>
     requires { length input.now ≤ 65536 }
-    ensures gives { IfSome (S.told store.old) (λ held. Gives (verdict_by (Some (Plain image.now budget input.now)) held.file) result) }
-    ensures early { IfErr result IsEarly }
+    ensures gives { IfSome (told_files (S.told store.old)) (λ file. Gives (verdict_by (Some (Plain image.now budget input.now)) file []) result) }
+    ensures early { IfErr result (λ c. IsEarly an_image c) }
     ensures fault { HasCause (S.faults store.old) (S.faults store.new) (IsErrOf result Cause.StoreFault) }
     ensures fetches { FetchesOnce (S.told store.old) (S.told store.new) }
 {
@@ -123,8 +139,8 @@ fn plain<S: Store>(
 
 #[tactic(auto, using(crate::proofs::Commands::check_ran, crate::proofs::Commands::check_against))]
 fn check<S: Store>(alloc: Global, store: &mut S, job: &str) -> Result<Items<u8>, Cause>
-    ensures gives { IfSome (S.told store.old) (λ held. Gives (verdict_by (Some (Check job.now)) held.file) result) }
-    ensures early { IfErr result IsEarly }
+    ensures gives { IfSome (told_files (S.told store.old)) (λ file. Gives (verdict_by (Some (Check job.now)) file []) result) }
+    ensures early { IfErr result (λ c. IsEarly a_plan c) }
     ensures fault { HasCause (S.faults store.old) (S.faults store.new) (IsErrOf result Cause.StoreFault) }
     ensures fetches { FetchesUpTo 2 (S.told store.old) (S.told store.new) }
 {
@@ -135,8 +151,8 @@ fn check<S: Store>(alloc: Global, store: &mut S, job: &str) -> Result<Items<u8>,
 
 #[tactic(auto, using(crate::proofs::Commands::infer_ran, crate::proofs::Commands::infer_against))]
 fn infer<S: Store>(alloc: Global, store: &mut S, job: &str) -> Result<Items<u8>, Cause>
-    ensures gives { IfSome (S.told store.old) (λ held. Gives (verdict_by (Some (Infer job.now)) held.file) result) }
-    ensures early { IfErr result IsEarly }
+    ensures gives { IfSome (told_files (S.told store.old)) (λ file. Gives (verdict_by (Some (Infer job.now)) file []) result) }
+    ensures early { IfErr result (λ c. IsEarly a_plan c) }
     ensures fault { HasCause (S.faults store.old) (S.faults store.new) (IsErrOf result Cause.StoreFault) }
     ensures fetches { FetchesUpTo 2 (S.told store.old) (S.told store.new) }
 {
