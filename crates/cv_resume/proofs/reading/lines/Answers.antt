@@ -1,0 +1,9 @@
+use Rattle.std.proofs.Common.{◌==◌, rules}
+use Rattle.std.proofs.lemmas.Iterator.Consumers.{map_from_collect}
+use Rattle.std.proofs.lemmas.Iterator.Splits.{YieldsList-from_slice_split}
+use Rattle.cv_journal.specs.Reading.{pieces}
+use Rattle.cv_resume.proofs.reading.lines.Goals as goal
+
+pub returns : goal.returns
+unfolding pieces
+returns c = map_from_collect _ c.collect.ensures.ran (YieldsList-from_slice_split _ (λ b. b == 10) c.args.text.now c.split.ensures.rest c.split.ensures.done c.split.ensures.closure (λ x b q h. search rules))
