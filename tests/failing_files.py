@@ -1,8 +1,13 @@
 #!/usr/bin/env python3
-"""failing_files.py PROGRAM: files that cannot be read, and an output that takes nothing
-(docs/FORMATS.md, "Causes and statuses"). The last line is `N passed, M failed`; the status is 1
-where a case failed."""
+"""failing_files.py PROGRAM: files that cannot be read, an output that takes nothing, one that nobody
+reads, and one that takes so many bytes and no more (docs/FORMATS.md, "Causes and statuses"). The last
+line is `N passed, M failed`; the status is 1 where a case failed."""
 import os
+import resource
+import shutil
+import subprocess
+import sys
+import tempfile
 
 from program import HELLO, ends, run
 
@@ -10,6 +15,7 @@ JOB = (b'{"image":"%s","workers":1,"checks":2,"budget":9,"rounds":[{"mode":"lear
 FILES = {'p.bin': HELLO, 'source': b'ecall\n', 'job': JOB % b'p.bin', 'folder': None}
 UNREAD = (6, '', 'clearview: cannot read\n')
 MISSING = (12, '', 'clearview: no such file\n')
+UNWRITTEN = (7, 'clearview: cannot write\n')
 
 # words, and the status with what is written
 CASES = [
@@ -28,6 +34,36 @@ CASES = [
 # words whose text is written to an output that is full
 FULL = [['plain', 'p.bin', '9', 'none'], ['check', 'job'], ['infer', 'job'], ['run', 'job'], ['drill', '0', '1'],
         ['asm', 'source'], ['list', 'p.bin']]
+JOBS = os.path.join(os.path.dirname(os.path.abspath(__file__)), 'jobs', 'bad-call')
+EVERY = 83  # of the lengths of a report, those that are tried
+
+
+def limited(place, most):
+    """Status, error lines and what was written of a job's report, to a file that takes `most` bytes."""
+    def limit():
+        resource.setrlimit(resource.RLIMIT_FSIZE, (most, most))
+    with open(os.path.join(place, 'output'), 'w+b') as output:
+        done = subprocess.run([os.path.abspath(sys.argv[1]), 'run', 'job.json'], cwd=place, stdout=output,
+                              stderr=subprocess.PIPE, text=True, timeout=60, preexec_fn=limit, restore_signals=False)
+        output.seek(0)
+        return done.returncode, done.stderr, output.read()
+
+
+def limits():
+    """How many lengths were tried, and what was wrong: the report is written up to the limit, and no further."""
+    wrong = []
+    with tempfile.TemporaryDirectory() as place:
+        for name in ('job.json', 'image.bin'):
+            shutil.copy(os.path.join(JOBS, name), place)
+        status, line, report = limited(place, 1 << 20)
+        lengths = sorted({*range(0, len(report), EVERY), len(report) - 1, len(report)})
+        if (status, line) != (0, '') or not report:
+            wrong.append(f'an output without a limit: {status}, {line}')
+        for most in lengths:
+            done = limited(place, most)
+            if done != ((0, '') if most == len(report) else UNWRITTEN) + (report[:most],):
+                wrong.append(f'an output of {most} bytes: {done}')
+    return len(lengths), wrong
 
 
 def main():
@@ -42,10 +78,21 @@ def main():
     for words in full:
         with open('/dev/full', 'wb') as output:
             done = run(words, files, output)
-        if (done.returncode, done.stderr) != (7, 'clearview: cannot write\n'):
+        if (done.returncode, done.stderr) != UNWRITTEN:
             failed += 1
             print(f'{words} to a full output: {done}')
-    ends(len(CASES) + len(full), failed)
+    for words in FULL:
+        unread, output = os.pipe()
+        os.close(unread)
+        done = run(words, files, output)
+        os.close(output)
+        if (done.returncode, done.stderr) != UNWRITTEN:
+            failed += 1
+            print(f'{words} to a pipe that nobody reads: {done}')
+    tried, wrong = limits()
+    for line in wrong:
+        print(line)
+    ends(len(CASES) + len(full) + len(FULL) + tried, failed + len(wrong))
 
 
 if __name__ == '__main__':

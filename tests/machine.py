@@ -1,7 +1,7 @@
 #!/usr/bin/env python3
 """machine.py PROGRAM: runs each row of machine.tsv by `plain` and compares what is written.
-Columns: name, flat image in hexadecimal, budget, input, end, turns, output. The last line is
-`N passed, M failed`; the status is 1 where a row failed."""
+Columns: name, flat image in hexadecimal, budget, input, end, turns, output (`00*9`: nine times `00`).
+The last line is `N passed, M failed`; the status is 1 where a row failed."""
 import os
 
 from program import ends, run
@@ -15,7 +15,8 @@ def main():
     failed = 0
     for name, image, budget, given, end, turns, output in rows:
         done = run(['plain', 'image.bin', budget, given], {'image.bin': bytes.fromhex(image)})
-        wanted = f'end {end}\nturns {turns}\noutput {output}\n'
+        digits, _, times = output.partition('*')
+        wanted = f'end {end}\nturns {turns}\noutput {digits * int(times or 1)}\n'
         if (done.returncode, done.stdout) != (0, wanted):
             failed += 1
             print(f'{name}: status {done.returncode}, {done.stdout!r}, expected {wanted!r}')

@@ -26,6 +26,19 @@ def run(words, files, output=subprocess.PIPE, text=True):
                               text=text, timeout=60)
 
 
+def built(path):
+    """The program itself, where the script ./clearview is given: the script makes processes of its own at each
+    call. It is called once, and builds the program anew where that is older than its sources."""
+    path = os.path.abspath(path)
+    itself = os.path.join(os.path.dirname(path), 'crates', 'clearview', 'out', 'clearview')
+    with open(path, 'rb') as file:
+        script = file.read(2) == b'#!'
+    if not script or not os.path.exists(itself):
+        return path
+    subprocess.run([path], stdout=subprocess.PIPE, stderr=subprocess.PIPE, check=False)
+    return itself
+
+
 def can_build():
     """Whether programs of guest/ can be built here."""
     return all(shutil.which(tool) for tool in MAKERS)

@@ -22,6 +22,13 @@ CASES = [
     ('check', JOB % b'"2"', 'clearview: job refused: field rounds', 3),
     ('check', JOB % b','.join([b'""'] * 1024), 'clearview: no such file', 12),  # the job's image
     ('check', JOB % b','.join([b'""'] * 1025), 'clearview: job refused: too-many-runs', 3),
+    ('check', b'[' * 1_000_000, 'clearview: job refused: not-json', 3),
+    ('check', b'{"x":' * 1_000_000, 'clearview: job refused: not-json', 3),
+    ('check', b'[' * 200 + b']' * 200, 'clearview: job refused: not-json', 3),  # past the reader's limit
+    ('check', b'[' * 100 + b']' * 100, 'clearview: job refused: not-object', 3),
+    ('check', b'{"x":"\\ud800"}', 'clearview: job refused: not-json', 3),
+    ('check', b'{"x":1e400}', 'clearview: job refused: not-json', 3),
+    ('check', b'{"x":"\xff"}', 'clearview: job refused: not-json', 3),
     ('check', 16_777_216, 'clearview: job refused: not-json', 3),
     ('check', 16_777_217, 'clearview: job too long', 3),
     ('infer', 16_777_217, 'clearview: job too long', 3),

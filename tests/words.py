@@ -10,6 +10,7 @@ FILES = {
     'job': b'{"image":"p.bin","workers":1,"checks":2,"budget":9,"rounds":[{"mode":"learn","inputs":[""]}]}',
 }
 ACCEPTED = [['plain', 'p.bin', '1000', 'none'], ['plain', 'p.bin', '00001000', '0aF0'],
+            ['plain', 'p.bin', '1000', '00' * 65_535],  # the longest that a shell can hand over
             ['check', 'job'], ['infer', 'job'], ['run', 'job'], ['drill', '0', '0001'],
             ['asm', 'source'], ['list', 'p.bin']]
 REFUSED = [
@@ -20,7 +21,8 @@ REFUSED = [
     ['plain', 'p.bin', '10000001', 'none'], ['plain', 'p.bin', '000000001', 'none'],
     ['plain', 'p.bin', '+1', 'none'], ['plain', 'p.bin', '1e3', 'none'],
     ['plain', 'p.bin', '1000', ''], ['plain', 'p.bin', '1000', '0'],
-    ['plain', 'p.bin', '1000', '0g'], ['plain', 'p.bin', '1000', 'None'],
+    ['plain', 'p.bin', '1000', '0g'], ['plain', 'p.bin', '1000', 'None'], ['plain', 'p.bin', '1000', '0' * 131_069],
+    ['plain', b'p\xff', '1000', 'none'], [b'\xff'], ['run', b'\xed\xa0\x80'], ['plain'] * 10_000,
     *[[command, *rest] for command in ('check', 'infer', 'run', 'asm', 'list')
       for rest in ([], [''], ['-job'], ['job', 'none'])],
     ['drill', ''], ['drill', '', '1'],
@@ -33,12 +35,12 @@ def main():
         done = run(words, FILES)
         if done.returncode != 0 or not done.stdout or done.stderr:
             failed += 1
-            print(f'{words}: {done}')
+            print(f'{str(words)[:200]}: {done}')
     for words in REFUSED:
         done = run(words, FILES)
         if (done.returncode, done.stdout, done.stderr) != (2, '', 'clearview: usage\n'):
             failed += 1
-            print(f'{words}: {done}')
+            print(f'{str(words)[:200]}: {done}')
     ends(len(ACCEPTED) + len(REFUSED), failed)
 
 

@@ -2,9 +2,11 @@
 """fuzz.py PROGRAM [--seed S] [--count N] [--jobs J]: words, images and jobs that nobody would write, each
 made from the examples by a seed. Of every case it asks what docs/FORMATS.md promises of every call:
 a status of the table, with its line and nothing else on standard error; nothing on standard output
-with a refusal; a whole text of the right form with status 0; the same answer again; an end within
-the turns that were asked for. A case that fails is printed with its seed, and `--seed S --count 1`
-gives it again. The last line is `N passed, M failed`; the status is 1 where a case failed."""
+with a refusal; a whole text of the right form with status 0, and of `run` a report that is sound by
+itself (tests/legal.py); the same answer again, but for a report of several workers, which is judged
+again; an end within the turns that were asked for. A case that fails is printed with its seed, and
+`--seed S --count 1` gives it again. The last line is `N passed, M failed`; the status is 1 where a
+case failed."""
 import argparse
 import concurrent.futures
 import json
@@ -18,6 +20,8 @@ import sys
 import tempfile
 
 TOP = pathlib.Path(__file__).resolve().parents[2]
+sys.path.insert(0, str(TOP / 'tests'))
+from legal import faults_of  # noqa: E402
 SECONDS = 60
 # the statuses of docs/FORMATS.md, "Causes and statuses", with the beginning of the line of each
 LINES = {
@@ -153,7 +157,12 @@ def a_case(seed):
     return words, files
 
 
-def wrong_text(words, text):
+def job_of(words, files):
+    """The job that is run, which was accepted."""
+    return json.loads(files[words[1]].decode())
+
+
+def wrong_text(words, files, text):
     """What is wrong with a text that was written with status 0."""
     form = {'plain': PLAIN, 'check': CHECK, 'infer': INFER, 'run': REPORT}.get(words[0])
     if form is None:
@@ -163,13 +172,15 @@ def wrong_text(words, text):
         return 'the text has another form'
     if words[0] == 'plain' and int(shape.group(2)) > int(words[2]):
         return 'more turns than the budget'
+    if words[0] == 'run':
+        return '; '.join(faults_of(text.decode(), job_of(words, files))[:3]) or None
     return None
 
 
-def fault_of(words, done):
+def fault_of(words, files, done):
     """What is wrong with an answer, or None."""
     if done.returncode == 0:
-        return 'a line on standard error' if done.stderr else wrong_text(words, done.stdout)
+        return 'a line on standard error' if done.stderr else wrong_text(words, files, done.stdout)
     if done.returncode not in LINES:
         return 'no such status'
     if done.stdout:
@@ -178,6 +189,15 @@ def fault_of(words, done):
     if line.count('\n') != 1 or not line.endswith('\n') or not line.startswith(LINES[done.returncode]):
         return 'another line'
     return None
+
+
+def fault_again(words, files, done, again):
+    """What is wrong with the answer to the same words again, or None."""
+    if (done.returncode, done.stdout, done.stderr) == (again.returncode, again.stdout, again.stderr):
+        return None
+    if words[0] == 'run' and done.returncode == again.returncode == 0 and job_of(words, files)['workers'] > 1:
+        return fault_of(words, files, again)
+    return 'another answer when it is asked again'
 
 
 def tried(program, seed):
@@ -192,9 +212,7 @@ def tried(program, seed):
             return seed, f'{words}: not done in {SECONDS} s'
         except ValueError as error:  # a word that no process can be given
             return seed, None if 'null' in str(error) else str(error)
-    fault = fault_of(words, done)
-    if fault is None and (done.returncode, done.stdout, done.stderr) != (again.returncode, again.stdout, again.stderr):
-        fault = 'another answer when it is asked again'
+    fault = fault_of(words, files, done) or fault_again(words, files, done, again)
     return seed, None if fault is None else f'{words}: {fault}: status {done.returncode}, {done.stderr[:200]!r}, {done.stdout[:200]!r}'
 
 
