@@ -36,7 +36,7 @@ one_answer n used v more some =
     ap (λ (k : ℕ). replicate k v ++ more) count
 
 -- nothing of the first row is used
-pub none_used : (rows : List Adopted) → left_of rows 0 ≡ written rows
+pub none_used : (xs : List Adopted) → left_of xs 0 ≡ written xs
 none_used [] = refl
 none_used (a ∷ rows) = rw sub-zero refl
 
