@@ -1,11 +1,11 @@
 -- How a command ends that has no text to write.
-use Rattle.std.proofs.Common.{◌≡◌, ◌≢◌, ℕ, List, [], Option, Some, None, Result, Ok, Err, IfSome, inl, inr, refl, map, string_bytes}
+use Rattle.std.proofs.Common.{◌≡◌, ◌≢◌, ℕ, List, [], Option, Some, None, Ok, Err, IfSome, inl, inr, refl, sym, subst, map, string_bytes}
 use Rattle.std.specs.Prelude.{◌⊎◌}
 use Rattle.clearview.specs.declared.cause.Cause.{Cause}
 use Rattle.clearview.specs.declared.cause.Cause.TheVariants as cause
 use Rattle.clearview.specs.Causes.{Completes, Ends, IsFree, Writes}
 use Rattle.clearview.specs.Gives.{Gives}
-use Rattle.clearview.specs.Verdict.{Verdict, files_for, plan_asked, verdict_by}
+use Rattle.clearview.specs.Verdict.{IsFound, Verdict, files_for, plan_asked, verdict_by}
 use Rattle.clearview.specs.Words.{Command, command_of}
 use Rattle.cv_edge.specs.Edge.{Held}
 use Rattle.cv_manager.specs.ManagerOf.{ManagerOf}
@@ -22,6 +22,8 @@ ends_of v cause.ImageLong why done sink = why
 ends_of v (cause.ImageRefused f) why done sink = why
 ends_of v cause.AsmLong why done sink = why
 ends_of v (cause.AsmRefused f) why done sink = why
+ends_of v cause.ReportLong why done sink = why
+ends_of v (cause.ReportRefused f) why done sink = why
 ends_of v cause.NoMemory why done sink = why
 ends_of v cause.StoreFault why done sink = why
 ends_of v cause.SinkFault why done sink = absurd (sink refl)
@@ -37,6 +39,8 @@ writes_of (Ok text) cause.ImageLong now done sink = refl
 writes_of (Ok text) (cause.ImageRefused f) now done sink = refl
 writes_of (Ok text) cause.AsmLong now done sink = refl
 writes_of (Ok text) (cause.AsmRefused f) now done sink = refl
+writes_of (Ok text) cause.ReportLong now done sink = refl
+writes_of (Ok text) (cause.ReportRefused f) now done sink = refl
 writes_of (Ok text) cause.NoMemory now done sink = refl
 writes_of (Ok text) cause.StoreFault now done sink = refl
 writes_of (Ok text) cause.SinkFault now done sink = absurd (sink refl)
@@ -47,28 +51,28 @@ complete_of v c StoreRose SinkRose (inr (inl e)) fault = λ text is store sink. 
 complete_of v c StoreRose SinkRose (inr (inr e)) fault = λ text is store sink. absurd (store (fault e))
 
 pub ends_against : (files : Option (List ℕ → Option (List ℕ))) (asked : Option Command) (c : Cause)
-    → IfSome files (λ file. Gives (verdict_by asked file []) (Err c)) → c ≢ cause.Done → c ≢ cause.SinkFault
-    → IfSome files (λ file. Ends (verdict_by asked file []) c)
+    → IfSome files (λ file. Gives (verdict_by asked file [] None) (Err c)) → c ≢ cause.Done → c ≢ cause.SinkFault
+    → IfSome files (λ file. Ends (verdict_by asked file [] None) c)
 ends_against None asked c why done sink = tt
-ends_against (Some file) asked c why done sink = ends_of (verdict_by asked file []) c why done sink
+ends_against (Some file) asked c why done sink = ends_of (verdict_by asked file [] None) c why done sink
 
 writes_against : (files : Option (List ℕ → Option (List ℕ))) (asked : Option Command) (c : Cause) (now : Option (List ℕ))
     → c ≢ cause.Done → c ≢ cause.SinkFault
-    → IfSome files (λ file. Writes (verdict_by asked file []) c now now)
+    → IfSome files (λ file. Writes (verdict_by asked file [] None) c now now)
 writes_against None asked c now done sink = tt
-writes_against (Some file) asked c now done sink = writes_of (verdict_by asked file []) c now done sink
+writes_against (Some file) asked c now done sink = writes_of (verdict_by asked file [] None) c now done sink
 
 pub complete_against : (files : Option (List ℕ → Option (List ℕ))) (asked : Option Command) (c : Cause) (StoreRose SinkRose : Type 0)
-    → IfSome files (λ file. Gives (verdict_by asked file []) (Err c)) → (c ≡ cause.StoreFault → StoreRose)
-    → IfSome files (λ file. Completes (verdict_by asked file []) StoreRose SinkRose c)
+    → IfSome files (λ file. Gives (verdict_by asked file [] None) (Err c)) → (c ≡ cause.StoreFault → StoreRose)
+    → IfSome files (λ file. Completes (verdict_by asked file [] None) StoreRose SinkRose c)
 complete_against None asked c StoreRose SinkRose why fault = tt
-complete_against (Some file) asked c StoreRose SinkRose why fault = complete_of (verdict_by asked file []) c StoreRose SinkRose why fault
+complete_against (Some file) asked c StoreRose SinkRose why fault = complete_of (verdict_by asked file [] None) c StoreRose SinkRose why fault
 
 -- ---- of the command that words are
 
 pub writes_of_words : (words : List (String Global)) (told : Option Held) (c : Cause) (now : Option (List ℕ))
     → c ≢ cause.Done → c ≢ cause.SinkFault
-    → IfSome (files_for (command_of (map string_bytes words)) told) (λ file. Writes (verdict_by (command_of (map string_bytes words)) file []) c now now)
+    → IfSome (files_for (command_of (map string_bytes words)) told) (λ file. Writes (verdict_by (command_of (map string_bytes words)) file [] None) c now now)
 writes_of_words words told c now done sink =
     writes_against (files_for (command_of (map string_bytes words)) told) (command_of (map string_bytes words)) c now done sink
 
@@ -81,3 +85,36 @@ no_plan asked (Some file) = tt
 pub no_plan_of_words : (words : List (String Global)) (told : Option Held)
     → IfSome (files_for (command_of (map string_bytes words)) told) (λ file. IfSome None (λ (b : ManagerOf). plan_asked (command_of (map string_bytes words)) file ≡ Ok b.plan))
 no_plan_of_words words told = no_plan (command_of (map string_bytes words)) (files_for (command_of (map string_bytes words)) told)
+
+-- nothing was found, so there is nothing to be so
+none_judged : (asked : Option Command) (files : Option (List ℕ → Option (List ℕ))) → IfSome files (λ file. IfSome None (IsFound asked file))
+none_judged asked None = tt
+none_judged asked (Some file) = tt
+
+pub none_judged_of_words : (words : List (String Global)) (told : Option Held) → IfSome (files_for (command_of (map string_bytes words)) told) (λ file. IfSome None (IsFound (command_of (map string_bytes words)) file))
+none_judged_of_words words told = none_judged (command_of (map string_bytes words)) (files_for (command_of (map string_bytes words)) told)
+
+-- ---- where there is a text
+
+abbrev Files : Type 0
+Files = List ℕ → Option (List ℕ)
+
+ends_so : (v : Verdict) (text : List ℕ) (c : Cause) → v ≡ Ok text → (c ≡ cause.Done) ⊎ (c ≡ cause.SinkFault) → Ends v c
+ends_so v text c is (inl e) = subst (Ends v) (sym e) (text, is)
+ends_so v text c is (inr e) = subst (Ends v) (sym e) (text, is)
+
+pub ends_text : (files : Option Files) (v : Files → Verdict) (text : List ℕ) (c : Cause) → IfSome files (λ file. v file ≡ Ok text) → (c ≡ cause.Done) ⊎ (c ≡ cause.SinkFault) → IfSome files (λ file. Ends (v file) c)
+ends_text None v text c is so = tt
+ends_text (Some file) v text c is so = ends_so (v file) text c is so
+
+pub writes_text : (files : Option Files) (v : Files → Verdict) (text : List ℕ) (c : Cause) (old new : Option (List ℕ)) → IfSome files (λ file. v file ≡ Ok text) → Writes (Ok text) c old new → IfSome files (λ file. Writes (v file) c old new)
+writes_text None v text c old new is so = tt
+writes_text (Some file) v text c old new is so = subst (λ (v : Verdict). Writes v c old new) (sym is) so
+
+complete_so : (v : Verdict) (c : Cause) (StoreRose SinkRose : Type 0) → (c ≡ cause.Done) ⊎ (c ≡ cause.SinkFault) → (c ≡ cause.SinkFault → SinkRose) → Completes v StoreRose SinkRose c
+complete_so v c StoreRose SinkRose (inl e) fault = λ text is store sink. inl e
+complete_so v c StoreRose SinkRose (inr e) fault = λ text is store sink. absurd (sink (fault e))
+
+pub complete_text : (files : Option Files) (v : Files → Verdict) (c : Cause) (StoreRose SinkRose : Type 0) → (c ≡ cause.Done) ⊎ (c ≡ cause.SinkFault) → (c ≡ cause.SinkFault → SinkRose) → IfSome files (λ file. Completes (v file) StoreRose SinkRose c)
+complete_text None v c StoreRose SinkRose so fault = tt
+complete_text (Some file) v c StoreRose SinkRose so fault = complete_so (v file) c StoreRose SinkRose so fault

@@ -42,23 +42,23 @@ fetches_twice (Some held) (Some later) None a b = absurd b
 
 pub read_gives : (asked : Option Command) (o : Option Reading) (command : Reading) (told : Option Held) (r : Result (List ℕ) Cause)
     → option_map command_view o ≡ asked → o ≡ Some command
-    → IfSome (files_for (Some (command_view command)) told) (λ file. Gives (verdict_by (Some (command_view command)) file []) r)
-    → IfSome (files_for asked told) (λ file. Gives (verdict_by asked file []) r)
+    → IfSome (files_for (Some (command_view command)) told) (λ file. Gives (verdict_by (Some (command_view command)) file [] None) r)
+    → IfSome (files_for asked told) (λ file. Gives (verdict_by asked file [] None) r)
 read_gives asked o command told r value is gives =
-    subst (λ (a : Option Command). IfSome (files_for a told) (λ file. Gives (verdict_by a file []) r)) (ap (λ (x : Option Reading). option_map command_view x) (sym is) ∙ value) gives
+    subst (λ (a : Option Command). IfSome (files_for a told) (λ file. Gives (verdict_by a file [] None) r)) (ap (λ (x : Option Reading). option_map command_view x) (sym is) ∙ value) gives
 
 -- ---- plain
 
 pub plain_ran : (told : Option Held) (image : List ℕ) (budget : ℕ) (input : List ℕ) (picture : Picture) (text : List ℕ)
     → IfSome told (λ held. Gives (image_in (held.file image)) (Ok picture))
     → text ≡ plain_text picture input budget
-    → IfSome (told_files told) (λ file. Gives (verdict_by (Some (Plain image budget input)) file []) (Ok text))
+    → IfSome (told_files told) (λ file. Gives (verdict_by (Some (Plain image budget input)) file [] None) (Ok text))
 plain_ran None image budget input picture text gives is = tt
 plain_ran (Some held) image budget input picture text gives is = rw (gives, is) refl
 
 pub plain_against : (told : Option Held) (image : List ℕ) (budget : ℕ) (input : List ℕ) (c : Cause)
     → IfSome told (λ held. Gives (image_in (held.file image)) (Err c))
-    → IfSome (told_files told) (λ file. Gives (verdict_by (Some (Plain image budget input)) file []) (Err c))
+    → IfSome (told_files told) (λ file. Gives (verdict_by (Some (Plain image budget input)) file [] None) (Err c))
 plain_against None image budget input c gives = tt
 plain_against (Some held) image budget input c (inl e) = inl (rw e refl)
 plain_against (Some held) image budget input c (inr free) = inr free
@@ -68,13 +68,13 @@ plain_against (Some held) image budget input c (inr free) = inr free
 pub check_ran : (told : Option Held) (job : List ℕ) (plan : PlanOf) (text : List ℕ)
     → IfSome told (λ held. Gives (plan_in held.file job) (Ok plan))
     → text ≡ check_text plan
-    → IfSome (told_files told) (λ file. Gives (verdict_by (Some (Check job)) file []) (Ok text))
+    → IfSome (told_files told) (λ file. Gives (verdict_by (Some (Check job)) file [] None) (Ok text))
 check_ran None job plan text gives is = tt
 check_ran (Some held) job plan text gives is = rw (gives, is) refl
 
 pub check_against : (told : Option Held) (job : List ℕ) (c : Cause)
     → IfSome told (λ held. Gives (plan_in held.file job) (Err c))
-    → IfSome (told_files told) (λ file. Gives (verdict_by (Some (Check job)) file []) (Err c))
+    → IfSome (told_files told) (λ file. Gives (verdict_by (Some (Check job)) file [] None) (Err c))
 check_against None job c gives = tt
 check_against (Some held) job c (inl e) = inl (rw e refl)
 check_against (Some held) job c (inr free) = inr free
@@ -82,13 +82,13 @@ check_against (Some held) job c (inr free) = inr free
 pub infer_ran : (told : Option Held) (job : List ℕ) (plan : PlanOf) (text : List ℕ)
     → IfSome told (λ held. Gives (plan_in held.file job) (Ok plan))
     → text ≡ infer_text plan
-    → IfSome (told_files told) (λ file. Gives (verdict_by (Some (Infer job)) file []) (Ok text))
+    → IfSome (told_files told) (λ file. Gives (verdict_by (Some (Infer job)) file [] None) (Ok text))
 infer_ran None job plan text gives is = tt
 infer_ran (Some held) job plan text gives is = rw (gives, is) refl
 
 pub infer_against : (told : Option Held) (job : List ℕ) (c : Cause)
     → IfSome told (λ held. Gives (plan_in held.file job) (Err c))
-    → IfSome (told_files told) (λ file. Gives (verdict_by (Some (Infer job)) file []) (Err c))
+    → IfSome (told_files told) (λ file. Gives (verdict_by (Some (Infer job)) file [] None) (Err c))
 infer_against None job c gives = tt
 infer_against (Some held) job c (inl e) = inl (rw e refl)
 infer_against (Some held) job c (inr free) = inr free
@@ -98,13 +98,13 @@ infer_against (Some held) job c (inr free) = inr free
 pub asm_ran : (told : Option Held) (source words text : List ℕ)
     → IfSome told (λ held. Gives (source_in (held.file source)) (Ok words))
     → text ≡ flat_map (spelled 4) words
-    → IfSome (told_files told) (λ file. Gives (verdict_by (Some (Asm source)) file []) (Ok text))
+    → IfSome (told_files told) (λ file. Gives (verdict_by (Some (Asm source)) file [] None) (Ok text))
 asm_ran None source words text gives is = tt
 asm_ran (Some held) source words text gives is = rw (gives, is) refl
 
 pub asm_against : (told : Option Held) (source : List ℕ) (c : Cause)
     → IfSome told (λ held. Gives (source_in (held.file source)) (Err c))
-    → IfSome (told_files told) (λ file. Gives (verdict_by (Some (Asm source)) file []) (Err c))
+    → IfSome (told_files told) (λ file. Gives (verdict_by (Some (Asm source)) file [] None) (Err c))
 asm_against None source c gives = tt
 asm_against (Some held) source c (inl e) = inl (rw e refl)
 asm_against (Some held) source c (inr free) = inr free
@@ -112,13 +112,13 @@ asm_against (Some held) source c (inr free) = inr free
 pub list_ran : (told : Option Held) (image : List ℕ) (picture : Picture) (text : List ℕ)
     → IfSome told (λ held. Gives (image_in (held.file image)) (Ok picture))
     → text ≡ listing_of picture.words
-    → IfSome (told_files told) (λ file. Gives (verdict_by (Some (Listing image)) file []) (Ok text))
+    → IfSome (told_files told) (λ file. Gives (verdict_by (Some (Listing image)) file [] None) (Ok text))
 list_ran None image picture text gives is = tt
 list_ran (Some held) image picture text gives is = rw (gives, is) refl
 
 pub list_against : (told : Option Held) (image : List ℕ) (c : Cause)
     → IfSome told (λ held. Gives (image_in (held.file image)) (Err c))
-    → IfSome (told_files told) (λ file. Gives (verdict_by (Some (Listing image)) file []) (Err c))
+    → IfSome (told_files told) (λ file. Gives (verdict_by (Some (Listing image)) file [] None) (Err c))
 list_against None image c gives = tt
 list_against (Some held) image c (inl e) = inl (rw e refl)
 list_against (Some held) image c (inr free) = inr free

@@ -2,9 +2,9 @@
 use Rattle.std.proofs.Common.{◌≡◌, IsTrue, inl, inr, refl, sym, subst}
 use Rattle.clearview.specs.declared.cause.Cause.{Cause}
 use Rattle.clearview.specs.declared.cause.Cause.TheVariants as cause
-use Rattle.clearview.specs.Causes.{IsFree, concerns}
+use Rattle.clearview.specs.Causes.{concerns}
 use Rattle.clearview.specs.Gives.{IsEarly, IsUnread}
-use Rattle.clearview.specs.Words.{Reads, a_plan, a_source, an_image}
+use Rattle.clearview.specs.Words.{Reads, a_plan, a_report, a_source, an_image}
 
 no_memory : (r : Reads) → IsEarly r cause.NoMemory
 no_memory r = record { reads = refl; not_done = λ e. absurd (cc e); not_usage = λ e. absurd (cc e); not_sink = λ e. absurd (cc e) }
@@ -30,6 +30,9 @@ long_job = record { reads = refl; not_done = λ e. absurd (cc e); not_usage = λ
 long_source : IsEarly a_source cause.AsmLong
 long_source = record { reads = refl; not_done = λ e. absurd (cc e); not_usage = λ e. absurd (cc e); not_sink = λ e. absurd (cc e) }
 
+long_report : IsEarly a_report cause.ReportLong
+long_report = record { reads = refl; not_done = λ e. absurd (cc e); not_usage = λ e. absurd (cc e); not_sink = λ e. absurd (cc e) }
+
 pub unread_image : (c : Cause) → IsUnread cause.ImageLong c → IsEarly an_image c
 unread_image c is = unread an_image cause.ImageLong c refl long_image is
 
@@ -38,6 +41,9 @@ unread_job c is = unread a_plan cause.JobLong c refl long_job is
 
 pub unread_source : (c : Cause) → IsUnread cause.AsmLong c → IsEarly a_source c
 unread_source c is = unread a_source cause.AsmLong c refl long_source is
+
+pub unread_report : (c : Cause) → IsUnread cause.ReportLong c → IsEarly a_report c
+unread_report c is = unread a_report cause.ReportLong c refl long_report is
 
 -- what is against an image is against a plan
 read_too : (c : Cause) → IsTrue (concerns an_image c) → IsTrue (concerns a_plan c)
@@ -50,9 +56,31 @@ read_too cause.ImageLong is = refl
 read_too (cause.ImageRefused f) is = refl
 read_too cause.AsmLong is = is
 read_too (cause.AsmRefused f) is = is
+read_too cause.ReportLong is = is
+read_too (cause.ReportRefused f) is = is
 read_too cause.NoMemory is = refl
 read_too cause.StoreFault is = refl
 read_too cause.SinkFault is = refl
 
 pub image_of_plan : (c : Cause) → IsEarly an_image c → IsEarly a_plan c
 image_of_plan c early = record { reads = read_too c early.reads; not_done = early.not_done; not_usage = early.not_usage; not_sink = early.not_sink }
+
+-- and what is against a plan is against a report of it
+read_beside : (c : Cause) → IsTrue (concerns a_plan c) → IsTrue (concerns a_report c)
+read_beside cause.Done is = refl
+read_beside cause.Usage is = refl
+read_beside cause.FileMissing is = refl
+read_beside cause.JobLong is = refl
+read_beside (cause.JobRefused f) is = refl
+read_beside cause.ImageLong is = refl
+read_beside (cause.ImageRefused f) is = refl
+read_beside cause.AsmLong is = is
+read_beside (cause.AsmRefused f) is = is
+read_beside cause.ReportLong is = refl
+read_beside (cause.ReportRefused f) is = refl
+read_beside cause.NoMemory is = refl
+read_beside cause.StoreFault is = refl
+read_beside cause.SinkFault is = refl
+
+pub plan_of_report : (c : Cause) → IsEarly a_plan c → IsEarly a_report c
+plan_of_report c early = record { reads = read_beside c early.reads; not_done = early.not_done; not_usage = early.not_usage; not_sink = early.not_sink }

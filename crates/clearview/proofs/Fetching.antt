@@ -1,16 +1,18 @@
--- What the bytes of a file say of its image, its job and its source.
+-- What the bytes of a file say of its image, its job, its source and its report.
 use Rattle.std.proofs.Common.{◌≡◌, ℕ, List, Option, Some, None, Result, Ok, Err, IfSome, arith, inl, inr, ap, sym, refl, ◌∙◌, subst}
 use Rattle.std.proofs.lemmas.Bool.Decides.{nat_tests}
+use Rattle.cv_base.specs.declared.entries.Entry.{Entry}
 use Rattle.cv_base.specs.Picture.{Picture}
 use Rattle.cv_base.specs.PlanOf.{PlanOf}
 use Rattle.cv_edge.specs.Edge.{Held, FetchesOnce}
 use Rattle.cv_job.specs.JobOf.{JobOf, plan_of}
 use Rattle.cv_job.specs.Reading.{reading_of}
 use Rattle.cv_asm.specs.Source.{source_of}
+use Rattle.cv_journal.specs.JournalOf.{journal_of}
 use Rattle.clearview.specs.declared.cause.Cause.{Cause}
 use Rattle.clearview.specs.declared.cause.Cause.TheVariants as cause
 use Rattle.clearview.specs.Gives.{Gives, bytes_in, plan_by}
-use Rattle.clearview.specs.Verdict.{image_in, image_reading, job_in, plan_in, refused, source_in}
+use Rattle.clearview.specs.Verdict.{image_in, image_reading, job_in, journal_in, plan_in, refused, report_in, source_in}
 
 image_whole : (file : Option (List ℕ)) (bytes : List ℕ) → bytes_in 4194304 cause.ImageLong file ≡ Ok bytes
     → image_in file ≡ refused (λ f. cause.ImageRefused f) (image_reading bytes)
@@ -39,6 +41,14 @@ source_against : (file : Option (List ℕ)) (c : Cause) → bytes_in 4194304 cau
 source_against None c e = cc e
 source_against (Some all) c e = grind (arith, nat_tests, e)
 
+report_whole : (file : Option (List ℕ)) (bytes : List ℕ) → bytes_in 268435456 cause.ReportLong file ≡ Ok bytes → report_in file ≡ journal_in bytes
+report_whole None bytes e = cc e
+report_whole (Some all) bytes e = grind (arith, nat_tests, e)
+
+report_against : (file : Option (List ℕ)) (c : Cause) → bytes_in 268435456 cause.ReportLong file ≡ Err c → report_in file ≡ Err c
+report_against None c e = cc e
+report_against (Some all) c e = grind (arith, nat_tests, e)
+
 -- where the bytes are read
 pub image_read : (told : Option Held) (name bytes : List ℕ) (r : Result Picture Cause)
     → IfSome told (λ held. Gives (bytes_in 4194304 cause.ImageLong (held.file name)) (Ok bytes))
@@ -61,6 +71,21 @@ pub source_read : (told : Option Held) (name bytes : List ℕ) (r : Result (List
 source_read None name bytes r whole gives = tt
 source_read (Some held) name bytes r whole gives = rw (source_whole (held.file name) bytes whole) gives
 
+pub report_read : (told : Option Held) (name bytes : List ℕ) (entries : List Entry)
+    → IfSome told (λ held. Gives (bytes_in 268435456 cause.ReportLong (held.file name)) (Ok bytes))
+    → Gives (refused (λ f. cause.ReportRefused f) (journal_of bytes)) (Ok entries)
+    → IfSome told (λ held. Gives (report_in (held.file name)) (Ok (bytes, entries)))
+report_read None name bytes entries whole gives = tt
+report_read (Some held) name bytes entries whole gives = rw (report_whole (held.file name) bytes whole, gives) refl
+
+pub report_refused : (told : Option Held) (name bytes : List ℕ) (c : Cause)
+    → IfSome told (λ held. Gives (bytes_in 268435456 cause.ReportLong (held.file name)) (Ok bytes))
+    → Gives (refused (λ f. cause.ReportRefused f) (journal_of bytes)) (Err c)
+    → IfSome told (λ held. Gives (report_in (held.file name)) (Err c))
+report_refused None name bytes c whole against = tt
+report_refused (Some held) name bytes c whole (inl e) = inl (rw (report_whole (held.file name) bytes whole, e) refl)
+report_refused (Some held) name bytes c whole (inr free) = inr free
+
 -- where there are none
 pub image_unread : (told : Option Held) (name : List ℕ) (c : Cause)
     → IfSome told (λ held. Gives (bytes_in 4194304 cause.ImageLong (held.file name)) (Err c))
@@ -82,6 +107,13 @@ pub source_unread : (told : Option Held) (name : List ℕ) (c : Cause)
 source_unread None name c against = tt
 source_unread (Some held) name c (inl e) = inl (source_against (held.file name) c e)
 source_unread (Some held) name c (inr free) = inr free
+
+pub report_unread : (told : Option Held) (name : List ℕ) (c : Cause)
+    → IfSome told (λ held. Gives (bytes_in 268435456 cause.ReportLong (held.file name)) (Err c))
+    → IfSome told (λ held. Gives (report_in (held.file name)) (Err c))
+report_unread None name c against = tt
+report_unread (Some held) name c (inl e) = inl (report_against (held.file name) c e)
+report_unread (Some held) name c (inr free) = inr free
 
 -- ---- plans
 

@@ -1,4 +1,5 @@
 pub mod Against
+pub mod Auditing
 pub mod Commands
 pub mod Early
 pub mod Fetching

@@ -4,6 +4,7 @@ use Rattle.std.specs.Prelude.{ℕ, List, ◌++◌, codes}
 use Rattle.cv_asm.specs.FaultText as asm
 use Rattle.cv_base.specs.FaultText as image
 use Rattle.cv_job.specs.JobFaultText as job
+use Rattle.cv_journal.specs.JournalFaultText as journal
 use Rattle.clearview.specs.declared.cause.Cause.{Cause}
 use Rattle.clearview.specs.declared.cause.Cause.TheVariants as cause
 
@@ -17,6 +18,8 @@ cause_text cause.ImageLong = codes "clearview: image too long"
 cause_text (cause.ImageRefused f) = codes "clearview: image refused: " ++ image.fault_text f
 cause_text cause.AsmLong = codes "clearview: source too long"
 cause_text (cause.AsmRefused f) = codes "clearview: source refused: " ++ asm.asm_fault_text f
+cause_text cause.ReportLong = codes "clearview: report too long"
+cause_text (cause.ReportRefused f) = codes "clearview: report refused: " ++ journal.fault_text f
 cause_text cause.NoMemory = codes "clearview: out of memory"
 cause_text cause.StoreFault = codes "clearview: cannot read"
 cause_text cause.SinkFault = codes "clearview: cannot write"

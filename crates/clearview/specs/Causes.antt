@@ -16,6 +16,8 @@ status_of cause.ImageLong = 4
 status_of (cause.ImageRefused f) = 4
 status_of cause.AsmLong = 8
 status_of (cause.AsmRefused f) = 8
+status_of cause.ReportLong = 9
+status_of (cause.ReportRefused f) = 9
 status_of cause.NoMemory = 5
 status_of cause.StoreFault = 6
 status_of cause.SinkFault = 7
@@ -24,15 +26,17 @@ status_of cause.SinkFault = 7
 abbrev pub concerns : Reads → Cause → Bool
 concerns r cause.Done = true
 concerns r cause.Usage = true
-concerns r cause.FileMissing = r.job || r.image || r.source
+concerns r cause.FileMissing = r.job || r.image || r.source || r.report
 concerns r cause.JobLong = r.job
 concerns r (cause.JobRefused f) = r.job
 concerns r cause.ImageLong = r.image
 concerns r (cause.ImageRefused f) = r.image
 concerns r cause.AsmLong = r.source
 concerns r (cause.AsmRefused f) = r.source
+concerns r cause.ReportLong = r.report
+concerns r (cause.ReportRefused f) = r.report
 concerns r cause.NoMemory = true
-concerns r cause.StoreFault = r.job || r.image || r.source
+concerns r cause.StoreFault = r.job || r.image || r.source || r.report
 concerns r cause.SinkFault = true
 
 -- want of memory, and a fault of the store, which has a clause of its own

@@ -7,6 +7,8 @@ use Rattle.cv_edge.specs.declared.store.FetchFail.{FetchFail}
 use Rattle.cv_edge.specs.declared.store.FetchFail.TheVariants as fetch
 use Rattle.cv_job.specs.declared.job.JobFail.{JobFail}
 use Rattle.cv_job.specs.declared.job.JobFail.TheVariants as job
+use Rattle.cv_journal.specs.declared.faults.JournalFail.{JournalFail}
+use Rattle.cv_journal.specs.declared.faults.JournalFail.TheVariants as journal
 use Rattle.clearview.specs.declared.cause.Cause.{Cause}
 use Rattle.clearview.specs.declared.cause.Cause.TheVariants as cause
 
@@ -25,3 +27,7 @@ from_job job.NoMemory = cause.NoMemory
 abbrev pub from_asm : AsmFail → Cause
 from_asm (asm.Refused fault) = cause.AsmRefused fault
 from_asm asm.NoMemory = cause.NoMemory
+
+abbrev pub from_journal : JournalFail → Cause
+from_journal (journal.Refused fault) = cause.ReportRefused fault
+from_journal journal.NoMemory = cause.NoMemory

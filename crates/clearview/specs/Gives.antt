@@ -1,6 +1,9 @@
 -- What a part of a command answers, against what it has to come to.
 use Rattle.std.specs.Prelude.{◌≡◌, ◌≢◌, ℕ, nat_lt, if◌then◌else◌, List, length, Option, Some, None, Result, Ok, Err, ◌⊎◌, [], string_bytes, IsTrue}
 use Rattle.clearview.specs.declared.cause.Cause.{Cause}
+use Rattle.clearview.specs.declared.files.Journal.{Journal}
+use Rattle.clearview.specs.declared.judgement.Judgement.{Judgement}
+use Rattle.clearview.specs.declared.judgement.Told.{Told}
 use Rattle.clearview.specs.declared.cause.Cause.TheVariants as cause
 use Rattle.std.specs.declared.string.String.{String}
 use Rattle.std.specs.declared.alloc.Global.{Global}
@@ -54,3 +57,17 @@ past_made (Err c) = []
 abbrev pub text_made : Result (ManagerOf × String Global) Cause → Result (String Global) Cause
 text_made (Ok made) = Ok made.1
 text_made (Err c) = Err c
+
+-- of what an audit has found with its text: the text, or the cause against it, and what was found
+abbrev pub text_told : Result Told Cause → Result (List ℕ) Cause
+text_told (Ok told) = Ok told.text
+text_told (Err c) = Err c
+
+abbrev pub found_told : Result Told Cause → Option Judgement
+found_told (Ok told) = Some told.found
+found_told (Err c) = None
+
+-- of a report: its text and its entries, or the cause against it
+abbrev pub report_told : Result Journal Cause → Result (List ℕ × List Entry) Cause
+report_told (Ok report) = Ok (report.text, report.entries)
+report_told (Err c) = Err c

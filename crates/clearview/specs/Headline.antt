@@ -9,9 +9,10 @@ use Rattle.cv_histories.specs.Serial.{serial}
 use Rattle.cv_manager.specs.ManagerOf.{ManagerOf}
 use Rattle.clearview.specs.declared.cause.Cause.{Cause}
 use Rattle.clearview.specs.declared.cause.Cause.TheVariants as cause
+use Rattle.clearview.specs.declared.judgement.Judgement.{Judgement}
 use Rattle.clearview.specs.Causes.{Completes, concerns, Ends, Silent, Writes}
-use Rattle.clearview.specs.Verdict.{book_text, files_for, plan_asked, verdict_by}
-use Rattle.clearview.specs.Words.{Command, files_named, keeps_book, reads_of}
+use Rattle.clearview.specs.Verdict.{IsFound, book_text, files_for, plan_asked, verdict_by}
+use Rattle.clearview.specs.Words.{Command, files_named, judges_report, keeps_book, reads_of}
 
 -- one posted history of all runs of the plan, however its instances interleaved: each entry is that of
 -- an honest run, under recorded versions that never fall; where no repair fired it is the unpatched
@@ -39,8 +40,9 @@ pub record Outside : Type 0 where
 abbrev pub outside : Option Held → ℕ → Option (List ℕ) → ℕ → Outside
 outside told store_faults written sink_faults = record { told = told; store_faults = store_faults; written = written; sink_faults = sink_faults }
 
--- what a call for a command has come to, with what was outside before and after it
-pub record Comes (asked : Option Command) (before after : Outside) (ended : Cause) (made : Option ManagerOf) : Type 0 where
+-- what a call for a command has come to, with what was outside before and after it: how it ended, the
+-- book of the runs that it posted, and what it found of a report that it judged
+pub record Comes (asked : Option Command) (before after : Outside) (ended : Cause) (made : Option ManagerOf) (found : Option Judgement) : Type 0 where
   -- the book is that of a posted history
   pub posted : IfSome made IsPosted
   -- what is written is the text of its plan and history
@@ -49,13 +51,16 @@ pub record Comes (asked : Option Command) (before after : Outside) (ended : Caus
   pub plan : IfSome (files_for asked before.told) (λ file. IfSome made (λ b. plan_asked asked file ≡ Ok b.plan))
   -- there is a book exactly where runs were posted and their text was made
   pub book : IsSome made ↔ (IsTrue (keeps_book asked) × ((ended ≡ cause.Done) ⊎ (ended ≡ cause.SinkFault)))
+  -- what was found of a report is so, and is found exactly where it is written
+  pub judged : IfSome (files_for asked before.told) (λ file. IfSome found (IsFound asked file))
+  pub found_is : IsSome found ↔ (IsTrue (judges_report asked) × ((ended ≡ cause.Done) ⊎ (ended ≡ cause.SinkFault)))
   pub usage : (ended ≡ cause.Usage) ↔ (asked ≡ None)
   -- and no cause is against a file that the command does not read
   pub reads : IsTrue (concerns (reads_of asked) ended)
   -- each cause comes exactly where the verdict has it
-  pub ends : IfSome (files_for asked before.told) (λ file. Ends (verdict_by asked file (past_of made)) ended)
-  pub writes : IfSome (files_for asked before.told) (λ file. Writes (verdict_by asked file (past_of made)) ended before.written after.written)
-  pub complete : IfSome (files_for asked before.told) (λ file. Completes (verdict_by asked file (past_of made)) (Rose before.store_faults after.store_faults) (Rose before.sink_faults after.sink_faults) ended)
+  pub ends : IfSome (files_for asked before.told) (λ file. Ends (verdict_by asked file (past_of made) found) ended)
+  pub writes : IfSome (files_for asked before.told) (λ file. Writes (verdict_by asked file (past_of made) found) ended before.written after.written)
+  pub complete : IfSome (files_for asked before.told) (λ file. Completes (verdict_by asked file (past_of made) found) (Rose before.store_faults after.store_faults) (Rose before.sink_faults after.sink_faults) ended)
   -- nothing is written but the text, whatever the store tells
   pub silent : Silent ended before.written after.written
   pub store_fault : HasCause before.store_faults after.store_faults (ended ≡ cause.StoreFault)

@@ -5,6 +5,7 @@ pub mod Froms
 pub mod Gives
 pub mod Headline
 pub mod Inferring
+pub mod Judged
 pub mod Verdict
 pub mod Views
 pub mod Words

@@ -12,6 +12,7 @@ use Rattle.cv_elf.specs.ElfReading.{elf_reading}
 use Rattle.cv_image.specs.FlatReading.{flat_reading}
 use Rattle.cv_job.specs.JobOf.{JobOf, plan_of}
 use Rattle.cv_job.specs.Reading.{reading_of}
+use Rattle.cv_journal.specs.JournalOf.{journal_of}
 use Rattle.cv_mem.specs.Memory.{spelled}
 use Rattle.cv_runs.specs.PlainText.{plain_text}
 use Rattle.cv_base.specs.PlanOf.{PlanOf}
@@ -20,9 +21,11 @@ use Rattle.cv_histories.specs.DrillPlan.{drill_plan}
 use Rattle.cv_histories.specs.OtherTexts.{drill_text, infer_text}
 use Rattle.cv_histories.specs.Report.{report}
 use Rattle.clearview.specs.CheckText.{check_text}
+use Rattle.clearview.specs.Judged.{IsJudgedIn, judged_text}
 use Rattle.clearview.specs.declared.cause.Cause.{Cause}
 use Rattle.clearview.specs.declared.cause.Cause.TheVariants as cause
-use Rattle.clearview.specs.Words.{Command, Plain, Check, Infer, Run, Drill, Asm, Listing}
+use Rattle.clearview.specs.declared.judgement.Judgement.{Judgement}
+use Rattle.clearview.specs.Words.{Command, Plain, Check, Infer, Run, Drill, Asm, Listing, Audit}
 
 abbrev pub Verdict : Type 0
 Verdict = Result (List ℕ) Cause
@@ -62,6 +65,15 @@ source_in (Some bytes) =
     if nat_lt 4194304 (length bytes) then Err cause.AsmLong
     else refused (λ f. cause.AsmRefused f) (source_of bytes)
 
+-- the journal of a report, beside its text
+abbrev pub journal_in : List ℕ → Result (List ℕ × List Entry) Cause
+journal_in text = and_then (refused (λ f. cause.ReportRefused f) (journal_of text)) (λ (entries : List Entry). Ok (text, entries))
+
+-- the report that a file holds
+abbrev pub report_in : Option (List ℕ) → Result (List ℕ × List Entry) Cause
+report_in None = Err cause.FileMissing
+report_in (Some bytes) = if nat_lt 268435456 (length bytes) then Err cause.ReportLong else journal_in bytes
+
 -- the plan of a job's file and its image's file
 abbrev pub plan_in : (List ℕ → Option (List ℕ)) → List ℕ → Result PlanOf Cause
 plan_in file job =
@@ -96,15 +108,24 @@ files_for None told = Some (λ name. None)
 files_for (Some (Drill number runs)) told = Some (λ name. None)
 files_for _ told = told_files told
 
--- what a command has to come to, where the history of its runs, if it posts any, is `past`
-abbrev pub verdict_by : Option Command → (List ℕ → Option (List ℕ)) → List Entry → Verdict
-verdict_by None file past = Err cause.Usage
-verdict_by (Some (Plain image budget input)) file past =
+-- what a command has to come to, where the history of its runs, if it posts any, is `past`, and where
+-- it has said `said` of a report, if it judges one
+abbrev pub verdict_by : Option Command → (List ℕ → Option (List ℕ)) → List Entry → Option Judgement → Verdict
+verdict_by None file past said = Err cause.Usage
+verdict_by (Some (Plain image budget input)) file past said =
     and_then (image_in (file image)) (λ (picture : Picture). Ok (plain_text picture input budget))
-verdict_by (Some (Check job)) file past = and_then (plan_in file job) (λ (plan : PlanOf). Ok (check_text plan))
-verdict_by (Some (Infer job)) file past = and_then (plan_in file job) (λ (plan : PlanOf). Ok (infer_text plan))
-verdict_by (Some (Run job)) file past = and_then (plan_in file job) (λ (plan : PlanOf). Ok (report plan past))
-verdict_by (Some (Drill number runs)) file past = Ok (drill_text (drilled number runs) past)
-verdict_by (Some (Asm source)) file past = and_then (source_in (file source)) (λ words. Ok (flat_map (spelled 4) words))
-verdict_by (Some (Listing image)) file past =
+verdict_by (Some (Check job)) file past said = and_then (plan_in file job) (λ (plan : PlanOf). Ok (check_text plan))
+verdict_by (Some (Infer job)) file past said = and_then (plan_in file job) (λ (plan : PlanOf). Ok (infer_text plan))
+verdict_by (Some (Run job)) file past said = and_then (plan_in file job) (λ (plan : PlanOf). Ok (report plan past))
+verdict_by (Some (Drill number runs)) file past said = Ok (drill_text (drilled number runs) past)
+verdict_by (Some (Asm source)) file past said = and_then (source_in (file source)) (λ words. Ok (flat_map (spelled 4) words))
+verdict_by (Some (Listing image)) file past said =
     and_then (image_in (file image)) (λ (picture : Picture). Ok (listing_of picture.words))
+verdict_by (Some (Audit job name)) file past said =
+    and_then (plan_in file job) (λ (plan : PlanOf).
+    and_then (report_in (file name)) (λ (report : List ℕ × List Entry). Ok (judged_text plan report.0 report.1 said)))
+
+-- what an audit has said is so of the files
+abbrev pub IsFound : Option Command → (List ℕ → Option (List ℕ)) → Judgement → Type 0
+IsFound (Some (Audit job name)) file said = IsJudgedIn (plan_in file job) (report_in (file name)) said
+IsFound _ file said = ⊥

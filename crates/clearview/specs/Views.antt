@@ -1,9 +1,10 @@
 -- The command that a reading of words answers.
+use Rattle.clearview.specs.declared.words.Charge.{Charge}
 use Rattle.clearview.specs.declared.words.Command.{Command as Reading}
 use Rattle.clearview.specs.declared.words.Command.TheVariants as reading
 use Rattle.clearview.specs.declared.words.Order.{Order}
 use Rattle.clearview.specs.declared.words.Order.TheVariants as order
-use Rattle.clearview.specs.Words.{Command, Plain, Check, Infer, Run, Drill, Asm, Listing}
+use Rattle.clearview.specs.Words.{Command, Plain, Check, Infer, Run, Drill, Asm, Listing, Audit}
 
 abbrev pub command_view : Reading → Command
 command_view (reading.Plain image budget input) = Plain image.now budget input
@@ -15,3 +16,6 @@ command_view (reading.Listing image) = Listing image.now
 abbrev pub order_view : Order → Command
 order_view (order.Run job) = Run job.now
 order_view (order.Drill number runs) = Drill number runs
+
+abbrev pub charge_view : Charge → Command
+charge_view charge = Audit charge.job.now charge.report.now

@@ -14,6 +14,7 @@ pub data Command : Type 0 where
   Drill : ℕ → ℕ → Command  -- number, runs
   Asm : List ℕ → Command  -- source's name
   Listing : List ℕ → Command  -- image's name
+  Audit : List ℕ → List ℕ → Command  -- job's name, report's name
 
 -- a file's name: not empty, and does not begin with `-`
 abbrev pub is_name : List ℕ → Bool
@@ -72,9 +73,19 @@ drill_runs word =
 abbrev pub drill_of : List ℕ → List ℕ → Option Command
 drill_of number runs = option_and_then (λ n. option_map (λ count. Drill n count) (drill_runs runs)) (drill_number number)
 
+abbrev pub audit_of : List ℕ → List ℕ → Option Command
+audit_of job report = if is_name job && is_name report then Some (Audit job report) else None
+
+-- the commands that have two words more
+abbrev pub pair_command : List ℕ → List ℕ → List ℕ → Option Command
+pair_command name first second =
+    if bytes_eq name (codes "drill") then drill_of first second
+    else if bytes_eq name (codes "audit") then audit_of first second
+    else None
+
 abbrev pub command_of : List (List ℕ) → Option Command
 command_of (name ∷ file ∷ []) = file_command name file
-command_of (name ∷ number ∷ runs ∷ []) = if bytes_eq name (codes "drill") then drill_of number runs else None
+command_of (name ∷ first ∷ second ∷ []) = pair_command name first second
 command_of (name ∷ image ∷ budget ∷ input ∷ []) = if bytes_eq name (codes "plain") then plain_of image budget input else None
 command_of _ = None
 
@@ -88,24 +99,29 @@ files_named (Some (Run job)) = 2
 files_named (Some (Drill number runs)) = 0
 files_named (Some (Asm source)) = 1
 files_named (Some (Listing image)) = 1
+files_named (Some (Audit job report)) = 3
 
--- what a command reads: a job, an image, a source
+-- what a command reads: a job, an image, a source, a report
 pub record Reads : Type 0 where
   pub job : Bool
   pub image : Bool
   pub source : Bool
+  pub report : Bool
 
 abbrev pub nothing : Reads
-nothing = record { job = false; image = false; source = false }
+nothing = record { job = false; image = false; source = false; report = false }
 
 abbrev pub an_image : Reads
-an_image = record { job = false; image = true; source = false }
+an_image = record { job = false; image = true; source = false; report = false }
 
 abbrev pub a_plan : Reads
-a_plan = record { job = true; image = true; source = false }
+a_plan = record { job = true; image = true; source = false; report = false }
 
 abbrev pub a_source : Reads
-a_source = record { job = false; image = false; source = true }
+a_source = record { job = false; image = false; source = true; report = false }
+
+abbrev pub a_report : Reads
+a_report = record { job = true; image = true; source = false; report = true }
 
 abbrev pub reads_of : Option Command → Reads
 reads_of None = nothing
@@ -116,6 +132,7 @@ reads_of (Some (Run job)) = a_plan
 reads_of (Some (Drill number runs)) = nothing
 reads_of (Some (Asm source)) = a_source
 reads_of (Some (Listing image)) = an_image
+reads_of (Some (Audit job report)) = a_report
 
 -- an input has at most 65,536 bytes, and a drill 1 to 1,022 live runs
 abbrev pub IsShort : Command → Type 0
@@ -126,9 +143,15 @@ IsShort (Run job) = Unit {0}
 IsShort (Drill number runs) = (1 ≤ runs) × (runs ≤ 1022)
 IsShort (Asm source) = Unit {0}
 IsShort (Listing image) = Unit {0}
+IsShort (Audit job report) = Unit {0}
 
 -- whether the runs of a command are posted to a book
 abbrev pub keeps_book : Option Command → Bool
 keeps_book (Some (Run job)) = true
 keeps_book (Some (Drill number runs)) = true
 keeps_book _ = false
+
+-- whether a command judges a report
+abbrev pub judges_report : Option Command → Bool
+judges_report (Some (Audit job report)) = true
+judges_report _ = false

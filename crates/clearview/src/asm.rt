@@ -15,7 +15,7 @@ use std::alloc::Global;
 /// against them (docs/FORMATS.md, "Assembly"). It fetches once.
 #[tactic(auto, using(crate::proofs::Commands::asm_ran, crate::proofs::Commands::asm_against))]
 pub fn asm<S: Store>(alloc: Global, store: &mut S, source: &str) -> Result<Items<u8>, Cause>
-    ensures gives { IfSome (told_files (S.told store.old)) (λ file. Gives (verdict_by (Some (Asm source.now)) file []) result) }
+    ensures gives { IfSome (told_files (S.told store.old)) (λ file. Gives (verdict_by (Some (Asm source.now)) file [] None) result) }
     ensures early { IfErr result (λ c. IsEarly a_source c) }
     ensures fault { HasCause (S.faults store.old) (S.faults store.new) (IsErrOf result Cause.StoreFault) }
     ensures fetches { FetchesOnce (S.told store.old) (S.told store.new) }

@@ -1,11 +1,13 @@
 ghost use Rattle.std.specs.Prelude.{◌≡◌};
 ghost use Rattle.clearview.specs.Causes.{status_of};
 
+use crate::judgement::Judgement;
 use cv_asm::{AsmFail, AsmFault};
 use cv_base::{ImageFail, ImageFault, NoMemory};
 use cv_core::Book;
 use cv_edge::FetchFail;
 use cv_job::{JobFail, JobFault};
+use cv_journal::{JournalFail, JournalFault};
 use std::fmt;
 
 /// How a call ended. Each has its status (docs/FORMATS.md, "Causes and statuses").
@@ -29,6 +31,10 @@ pub enum Cause {
     AsmLong,
     /// The source is refused: the fault of its first faulty line.
     AsmRefused(AsmFault),
+    /// The report's file has more than 268,435,456 bytes.
+    ReportLong,
+    /// The report's file has no journal: the first fault.
+    ReportRefused(JournalFault),
     /// Memory was refused.
     NoMemory,
     /// The store failed.
@@ -49,6 +55,7 @@ impl Cause {
             Cause::JobLong | Cause::JobRefused(_) => 3,
             Cause::ImageLong | Cause::ImageRefused(_) => 4,
             Cause::AsmLong | Cause::AsmRefused(_) => 8,
+            Cause::ReportLong | Cause::ReportRefused(_) => 9,
             Cause::NoMemory => 5,
             Cause::StoreFault => 6,
             Cause::SinkFault => 7,
@@ -56,13 +63,14 @@ impl Cause {
     }
 }
 
-/// How a call ended, with the exit status of the program and, where a job was run and its report
-/// made, the book of its runs.
+/// How a call ended, with the exit status of the program; where a job was run and its report made,
+/// the book of its runs; and where a report was judged, what was found of it.
 #[derive(Drop)]
 pub struct Finish {
     pub status: u8,
     pub cause: Cause,
     pub book: Option<Book>,
+    pub found: Option<Judgement>,
 }
 
 impl fmt::Display for Cause {
@@ -82,6 +90,8 @@ impl fmt::Display for Cause {
             Cause::ImageRefused(fault) => write!(f, "clearview: image refused: {fault}"),
             Cause::AsmLong => write!(f, "clearview: source too long"),
             Cause::AsmRefused(fault) => write!(f, "clearview: source refused: {fault}"),
+            Cause::ReportLong => write!(f, "clearview: report too long"),
+            Cause::ReportRefused(fault) => write!(f, "clearview: report refused: {fault}"),
             Cause::NoMemory => write!(f, "clearview: out of memory"),
             Cause::StoreFault => write!(f, "clearview: cannot read"),
             Cause::SinkFault => write!(f, "clearview: cannot write"),
@@ -152,6 +162,20 @@ impl From<AsmFail> for Cause {
         match error {
             AsmFail::Refused(fault) => Cause::AsmRefused(fault),
             AsmFail::NoMemory => Cause::NoMemory,
+        }
+    }
+}
+
+impl From<JournalFail> for Cause {
+    ghost use Rattle.std.specs.Prelude.{◌≡◌};
+    ghost use Rattle.clearview.specs.Froms.{from_journal};
+
+    ghost from_gives = { λ e r. r ≡ from_journal e };
+
+    fn from(error: JournalFail) -> Cause {
+        match error {
+            JournalFail::Refused(fault) => Cause::ReportRefused(fault),
+            JournalFail::NoMemory => Cause::NoMemory,
         }
     }
 }

@@ -8,10 +8,11 @@ ghost use Rattle.clearview.specs.Verdict.{book_text, drilled, files_for, plan_as
 ghost use Rattle.clearview.specs.Views.{order_view};
 ghost use Rattle.clearview.specs.Words.{command_of, files_named, reads_of, IsShort};
 
+use crate::audit::audit;
 use crate::cause::{Cause, Finish};
 use crate::files::plan_of;
 use crate::tool::{tool, written};
-use crate::words::{Order, order_in};
+use crate::words::{Order, charge_in, order_in};
 use cv_base::{NoMemory, Plan};
 use cv_core::Book;
 use cv_edge::{Gate, Sink, Store};
@@ -29,7 +30,8 @@ use std::thread::Threads;
 /// instances as it has workers, side by side in threads, which pass the gate.
 ///
 /// Where a job is run, or a drill, the text is that of the posted history in the book, which has each
-/// run of the plan once, and is legal, however the instances interleave: README, "The headline".
+/// run of the plan once, and is legal, however the instances interleave: README, "The headline". Where
+/// a report is judged, the text says what is found of it.
 pub fn clearview<R: Threads + Wait + Sync, S: Store, K: Sink, G: Gate>(
     rt: &R,
     alloc: Global,
@@ -39,10 +41,13 @@ pub fn clearview<R: Threads + Wait + Sync, S: Store, K: Sink, G: Gate>(
     gate: &G,
 ) -> Finish
     ensures status { result.status ≡ status_of result.cause }
-    ensures comes { Comes (command_of (map string_bytes words.now)) (outside (S.told store.old) (S.faults store.old) (K.written sink.old) (K.faults sink.old)) (outside (S.told store.new) (S.faults store.new) (K.written sink.new) (K.faults sink.new)) result.cause result.book }
+    ensures comes { Comes (command_of (map string_bytes words.now)) (outside (S.told store.old) (S.faults store.old) (K.written sink.old) (K.faults sink.old)) (outside (S.told store.new) (S.faults store.new) (K.written sink.new) (K.faults sink.new)) result.cause result.book result.found }
 {
-    match order_in(words) {
-        Some(order) => run(rt, alloc, &order, store, sink, gate),
+    if let Some(order) = order_in(words) {
+        return run(rt, alloc, &order, store, sink, gate);
+    }
+    match charge_in(words) {
+        Some(charge) => audit(alloc, &charge, store, sink),
         None => tool(alloc, words, store, sink),
     }
 }
@@ -58,7 +63,7 @@ fn run<R: Threads + Wait + Sync, S: Store, K: Sink, G: Gate>(
 ) -> Finish
     requires { IsShort (order_view order.now) }
     ensures status { result.status ≡ status_of result.cause }
-    ensures comes { Comes (Some (order_view order.now)) (outside (S.told store.old) (S.faults store.old) (K.written sink.old) (K.faults sink.old)) (outside (S.told store.new) (S.faults store.new) (K.written sink.new) (K.faults sink.new)) result.cause result.book }
+    ensures comes { Comes (Some (order_view order.now)) (outside (S.told store.old) (S.faults store.old) (K.written sink.old) (K.faults sink.old)) (outside (S.told store.new) (S.faults store.new) (K.written sink.new) (K.faults sink.new)) result.cause result.book result.found }
 {
     match run_with(rt, alloc, order, store, gate) {
         Ok((book, text)) => {
@@ -67,12 +72,14 @@ fn run<R: Threads + Wait + Sync, S: Store, K: Sink, G: Gate>(
                 status: cause.status(),
                 cause,
                 book: Some(book),
+                found: None,
             }
         }
         Err(cause) => Finish {
             status: cause.status(),
             cause,
             book: None,
+            found: None,
         },
     }
 }
@@ -87,7 +94,7 @@ fn run_with<R: Threads + Wait + Sync, S: Store, G: Gate>(
     gate: &G,
 ) -> Result<(Book, String), Cause>
     requires { IsShort (order_view order.now) }
-    ensures gives { IfSome (files_for (Some (order_view order.now)) (S.told store.old)) (λ file. GivesText (verdict_by (Some (order_view order.now)) file (past_made result)) (text_made result)) }
+    ensures gives { IfSome (files_for (Some (order_view order.now)) (S.told store.old)) (λ file. GivesText (verdict_by (Some (order_view order.now)) file (past_made result) None) (text_made result)) }
     ensures plan { IfSome (files_for (Some (order_view order.now)) (S.told store.old)) (λ file. Gives (plan_asked (Some (order_view order.now)) file) (plan_made result)) }
     ensures posted { IfOk result (λ made. IsPosted made.0) }
     ensures report { IfOk result (λ made. string_bytes made.1 ≡ book_text (Some (order_view order.now)) made.0.plan made.0.past) }

@@ -1,18 +1,20 @@
 ghost use Rattle.std.specs.Prelude.{◌≡◌, ◌≢◌, ◌≤◌, length, IfErr, IfOk, IfSome, IsErrOf};
 ghost use Rattle.cv_asm.specs.Source.{source_of};
+ghost use Rattle.cv_journal.specs.JournalOf.{journal_of};
 ghost use Rattle.cv_edge.specs.Edge.{FetchesOnce, FetchesUpTo, HasCause};
-ghost use Rattle.clearview.specs.Gives.{Gives, IsEarly, IsUnread, bytes_in, plan_by};
-ghost use Rattle.clearview.specs.Verdict.{image_in, image_reading, job_in, plan_in, refused, source_in};
-ghost use Rattle.clearview.specs.Words.{a_plan, a_source, an_image};
+ghost use Rattle.clearview.specs.Gives.{Gives, IsEarly, IsUnread, bytes_in, plan_by, report_told};
+ghost use Rattle.clearview.specs.Verdict.{image_in, image_reading, job_in, plan_in, refused, report_in, source_in};
+ghost use Rattle.clearview.specs.Words.{a_plan, a_report, a_source, an_image};
 ghost use Rattle.clearview.specs.declared.cause.Cause.TheVariants as cause;
 
 use crate::cause::Cause;
 use cv_asm::assemble;
-use cv_base::{Image, Items, Plan};
+use cv_base::{Entry, Image, Items, Plan};
 use cv_edge::{Fetched, Store};
 use cv_elf::elf;
 use cv_image::flat;
 use cv_job::{Job, read_job};
+use cv_journal::read_entries;
 use std::alloc::Global;
 
 /// The most bytes that an image's file may have.
@@ -23,6 +25,16 @@ const JOB_LIMIT: u32 = 16_777_216;
 
 /// The most bytes that a source's file may have.
 const SOURCE_LIMIT: u32 = 4_194_304;
+
+/// The most bytes that a report's file may have.
+const REPORT_LIMIT: u32 = 268_435_456;
+
+/// A report's text, and the entries of its journal.
+#[derive(Drop)]
+pub struct Journal {
+    pub text: Items<u8>,
+    pub entries: Items<Entry>,
+}
 
 /// The plan of the job that a file holds, with the image that the job names, or the cause against
 /// it (docs/FORMATS.md, "Causes and statuses"). It fetches the job, and then the image.
@@ -88,6 +100,20 @@ pub fn source_words<S: Store>(alloc: Global, store: &mut S, name: &str) -> Resul
     read_source(alloc, bytes.as_slice())
 }
 
+/// The report that a file holds with its journal, or the cause against it (docs/FORMATS.md, "Causes
+/// and statuses"). It fetches once.
+#[tactic(auto, using(crate::proofs::Fetching::report_read, crate::proofs::Fetching::report_refused, crate::proofs::Fetching::report_unread, crate::proofs::Early::unread_report))]
+pub fn journal_of<S: Store>(alloc: Global, store: &mut S, name: &str) -> Result<Journal, Cause>
+    ensures gives { IfSome (S.told store.old) (λ held. Gives (report_in (held.file name.now)) (report_told result)) }
+    ensures early { IfErr result (λ c. IsEarly a_report c) }
+    ensures fault { HasCause (S.faults store.old) (S.faults store.new) (IsErrOf result Cause.StoreFault) }
+    ensures fetches { FetchesOnce (S.told store.old) (S.told store.new) }
+{
+    let text = bytes_of(alloc, store, name, REPORT_LIMIT, Cause::ReportLong)?;
+    let entries = read_journal(alloc, text.as_slice())?;
+    Ok(Journal { text, entries })
+}
+
 /// The bytes of a file, or the cause against them: `longer` where there are more than `limit`.
 fn bytes_of<S: Store>(
     alloc: Global,
@@ -133,4 +159,14 @@ fn read_source(alloc: Global, text: &[u8]) -> Result<Items<u32>, Cause>
 {
     let words = assemble(alloc, text)?;
     Ok(Items::from_vec(words))
+}
+
+/// The entries of a report's journal, or why there is none.
+fn read_journal(alloc: Global, text: &[u8]) -> Result<Items<Entry>, Cause>
+    requires { length text.now ≤ 268435456 }
+    ensures gives { Gives (refused (λ f. Cause.ReportRefused f) (journal_of text.now)) result }
+    ensures early { IfErr result (λ c. IsEarly a_report c) }
+    ensures refusal { IfErr result (λ c. c ≢ Cause.StoreFault) }
+{
+    Ok(read_entries(alloc, text)?)
 }

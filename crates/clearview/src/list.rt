@@ -16,7 +16,7 @@ use std::alloc::Global;
 /// them (docs/FORMATS.md, "Assembly"). It fetches once.
 #[tactic(auto, using(crate::proofs::Commands::list_ran, crate::proofs::Commands::list_against))]
 pub fn list<S: Store>(alloc: Global, store: &mut S, image: &str) -> Result<Items<u8>, Cause>
-    ensures gives { IfSome (told_files (S.told store.old)) (λ file. Gives (verdict_by (Some (Listing image.now)) file []) result) }
+    ensures gives { IfSome (told_files (S.told store.old)) (λ file. Gives (verdict_by (Some (Listing image.now)) file [] None) result) }
     ensures early { IfErr result (λ c. IsEarly an_image c) }
     ensures fault { HasCause (S.faults store.old) (S.faults store.new) (IsErrOf result Cause.StoreFault) }
     ensures fetches { FetchesOnce (S.told store.old) (S.told store.new) }

@@ -4,10 +4,12 @@
 #![tactic(auto)]
 
 mod asm;
+mod audit;
 mod cause;
 mod clearview;
 mod files;
 mod infer;
+mod judgement;
 mod list;
 mod plain;
 mod texts;

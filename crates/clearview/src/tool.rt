@@ -5,7 +5,7 @@ ghost use Rattle.clearview.specs.Gives.{Gives, IsEarly};
 ghost use Rattle.clearview.specs.Headline.{Comes, outside};
 ghost use Rattle.clearview.specs.Verdict.{files_for, told_files, verdict_by};
 ghost use Rattle.clearview.specs.Views.{command_view};
-ghost use Rattle.clearview.specs.Words.{command_of, a_plan, an_image, files_named, keeps_book, reads_of, IsShort, Plain, Check, Infer};
+ghost use Rattle.clearview.specs.Words.{command_of, a_plan, an_image, files_named, judges_report, keeps_book, reads_of, IsShort, Plain, Check, Infer};
 
 use crate::asm::asm;
 use crate::cause::{Cause, Finish};
@@ -19,24 +19,27 @@ use cv_base::Items;
 use cv_edge::{Failed, Sink, Store, write_all};
 use std::alloc::Global;
 
-/// Does the command that words are, whose runs are not posted to a book: fetches the files that it
-/// names, and writes its text whole (docs/FORMATS.md, "Causes and statuses").
+/// Does the command that words are, which posts no runs to a book and judges no report: fetches the
+/// files that it names, and writes its text whole (docs/FORMATS.md, "Causes and statuses").
 pub fn tool<S: Store, K: Sink>(
     alloc: Global,
     words: &[String],
     store: &mut S,
     sink: &mut K,
 ) -> Finish
-    requires { keeps_book (command_of (map string_bytes words.now)) ≡ false }
+    requires book { keeps_book (command_of (map string_bytes words.now)) ≡ false }
+    requires report { judges_report (command_of (map string_bytes words.now)) ≡ false }
     ensures none { result.book ≡ None }
+    ensures unjudged { result.found ≡ None }
     ensures status { result.status ≡ status_of result.cause }
-    ensures comes { Comes (command_of (map string_bytes words.now)) (outside (S.told store.old) (S.faults store.old) (K.written sink.old) (K.faults sink.old)) (outside (S.told store.new) (S.faults store.new) (K.written sink.new) (K.faults sink.new)) result.cause result.book }
+    ensures comes { Comes (command_of (map string_bytes words.now)) (outside (S.told store.old) (S.faults store.old) (K.written sink.old) (K.faults sink.old)) (outside (S.told store.new) (S.faults store.new) (K.written sink.new) (K.faults sink.new)) result.cause result.book result.found }
 {
     let cause = carried_out(alloc, words, store, sink);
     Finish {
         status: cause.status(),
         cause,
         book: None,
+        found: None,
     }
 }
 
@@ -47,12 +50,13 @@ fn carried_out<S: Store, K: Sink>(
     store: &mut S,
     sink: &mut K,
 ) -> Cause
-    requires { keeps_book (command_of (map string_bytes words.now)) ≡ false }
+    requires book { keeps_book (command_of (map string_bytes words.now)) ≡ false }
+    requires report { judges_report (command_of (map string_bytes words.now)) ≡ false }
     ensures usage { (result ≡ Cause.Usage) ↔ (command_of (map string_bytes words.now) ≡ None) }
     ensures reads { IsTrue (concerns (reads_of (command_of (map string_bytes words.now))) result) }
-    ensures ends { IfSome (files_for (command_of (map string_bytes words.now)) (S.told store.old)) (λ file. Ends (verdict_by (command_of (map string_bytes words.now)) file []) result) }
-    ensures writes { IfSome (files_for (command_of (map string_bytes words.now)) (S.told store.old)) (λ file. Writes (verdict_by (command_of (map string_bytes words.now)) file []) result (K.written sink.old) (K.written sink.new)) }
-    ensures complete { IfSome (files_for (command_of (map string_bytes words.now)) (S.told store.old)) (λ file. Completes (verdict_by (command_of (map string_bytes words.now)) file []) (Rose (S.faults store.old) (S.faults store.new)) (Rose (K.faults sink.old) (K.faults sink.new)) result) }
+    ensures ends { IfSome (files_for (command_of (map string_bytes words.now)) (S.told store.old)) (λ file. Ends (verdict_by (command_of (map string_bytes words.now)) file [] None) result) }
+    ensures writes { IfSome (files_for (command_of (map string_bytes words.now)) (S.told store.old)) (λ file. Writes (verdict_by (command_of (map string_bytes words.now)) file [] None) result (K.written sink.old) (K.written sink.new)) }
+    ensures complete { IfSome (files_for (command_of (map string_bytes words.now)) (S.told store.old)) (λ file. Completes (verdict_by (command_of (map string_bytes words.now)) file [] None) (Rose (S.faults store.old) (S.faults store.new)) (Rose (K.faults sink.old) (K.faults sink.new)) result) }
     ensures silent { Silent result (K.written sink.old) (K.written sink.new) }
     ensures store_fault { HasCause (S.faults store.old) (S.faults store.new) (result ≡ Cause.StoreFault) }
     ensures sink_fault { HasCause (K.faults sink.old) (K.faults sink.new) (result ≡ Cause.SinkFault) }
@@ -79,8 +83,9 @@ pub(crate) fn written<K: Sink>(sink: &mut K, text: &[u8]) -> Cause
 /// The text of the command that words are, or the cause against it.
 #[tactic(auto, using(crate::proofs::Commands::fetches_none))]
 fn text_of<S: Store>(alloc: Global, words: &[String], store: &mut S) -> Result<Items<u8>, Cause>
-    requires { keeps_book (command_of (map string_bytes words.now)) ≡ false }
-    ensures gives { IfSome (files_for (command_of (map string_bytes words.now)) (S.told store.old)) (λ file. Gives (verdict_by (command_of (map string_bytes words.now)) file []) result) }
+    requires book { keeps_book (command_of (map string_bytes words.now)) ≡ false }
+    requires report { judges_report (command_of (map string_bytes words.now)) ≡ false }
+    ensures gives { IfSome (files_for (command_of (map string_bytes words.now)) (S.told store.old)) (λ file. Gives (verdict_by (command_of (map string_bytes words.now)) file [] None) result) }
     ensures usage { IsErrOf result Cause.Usage ↔ (command_of (map string_bytes words.now) ≡ None) }
     ensures done { IfErr result (λ c. (c ≢ Cause.Done) × (c ≢ Cause.SinkFault)) }
     ensures reads { IfErr result (λ c. IsTrue (concerns (reads_of (command_of (map string_bytes words.now))) c)) }
@@ -100,7 +105,7 @@ fn command_text<S: Store>(
     store: &mut S,
 ) -> Result<Items<u8>, Cause>
     requires { IsShort (command_view command.now) }
-    ensures gives { IfSome (files_for (Some (command_view command.now)) (S.told store.old)) (λ file. Gives (verdict_by (Some (command_view command.now)) file []) result) }
+    ensures gives { IfSome (files_for (Some (command_view command.now)) (S.told store.old)) (λ file. Gives (verdict_by (Some (command_view command.now)) file [] None) result) }
     ensures early { IfErr result (λ c. IsEarly (reads_of (Some (command_view command.now))) c) }
     ensures fault { HasCause (S.faults store.old) (S.faults store.new) (IsErrOf result Cause.StoreFault) }
     ensures fetches { FetchesUpTo (files_named (Some (command_view command.now))) (S.told store.old) (S.told store.new) }
@@ -127,7 +132,7 @@ fn plain<S: Store>(
     input: &[u8],
 ) -> Result<Items<u8>, Cause>
     requires { length input.now ≤ 65536 }
-    ensures gives { IfSome (told_files (S.told store.old)) (λ file. Gives (verdict_by (Some (Plain image.now budget input.now)) file []) result) }
+    ensures gives { IfSome (told_files (S.told store.old)) (λ file. Gives (verdict_by (Some (Plain image.now budget input.now)) file [] None) result) }
     ensures early { IfErr result (λ c. IsEarly an_image c) }
     ensures fault { HasCause (S.faults store.old) (S.faults store.new) (IsErrOf result Cause.StoreFault) }
     ensures fetches { FetchesOnce (S.told store.old) (S.told store.new) }
@@ -139,7 +144,7 @@ fn plain<S: Store>(
 
 #[tactic(auto, using(crate::proofs::Commands::check_ran, crate::proofs::Commands::check_against))]
 fn check<S: Store>(alloc: Global, store: &mut S, job: &str) -> Result<Items<u8>, Cause>
-    ensures gives { IfSome (told_files (S.told store.old)) (λ file. Gives (verdict_by (Some (Check job.now)) file []) result) }
+    ensures gives { IfSome (told_files (S.told store.old)) (λ file. Gives (verdict_by (Some (Check job.now)) file [] None) result) }
     ensures early { IfErr result (λ c. IsEarly a_plan c) }
     ensures fault { HasCause (S.faults store.old) (S.faults store.new) (IsErrOf result Cause.StoreFault) }
     ensures fetches { FetchesUpTo 2 (S.told store.old) (S.told store.new) }
@@ -151,7 +156,7 @@ fn check<S: Store>(alloc: Global, store: &mut S, job: &str) -> Result<Items<u8>,
 
 #[tactic(auto, using(crate::proofs::Commands::infer_ran, crate::proofs::Commands::infer_against))]
 fn infer<S: Store>(alloc: Global, store: &mut S, job: &str) -> Result<Items<u8>, Cause>
-    ensures gives { IfSome (told_files (S.told store.old)) (λ file. Gives (verdict_by (Some (Infer job.now)) file []) result) }
+    ensures gives { IfSome (told_files (S.told store.old)) (λ file. Gives (verdict_by (Some (Infer job.now)) file [] None) result) }
     ensures early { IfErr result (λ c. IsEarly a_plan c) }
     ensures fault { HasCause (S.faults store.old) (S.faults store.new) (IsErrOf result Cause.StoreFault) }
     ensures fetches { FetchesUpTo 2 (S.told store.old) (S.told store.new) }

@@ -1,9 +1,9 @@
-ghost use Rattle.std.specs.Prelude.{◌≡◌, ◌≤◌, ◌^◌, ◌&&◌, ℕ, List, Ok, Some, None, false, is_some, length, map, nat_lt, string_bytes, IfOk, IfSome, IsErr, IsSome, if◌then◌else◌};
+ghost use Rattle.std.specs.Prelude.{◌≡◌, ◌≤◌, ◌^◌, ◌&&◌, ℕ, List, Ok, Some, None, false, true, is_some, length, map, nat_lt, string_bytes, IfOk, IfSome, IsErr, IsSome, if◌then◌else◌};
 ghost use Rattle.std.specs.Char.{is_ascii_hexdigit};
 ghost use Rattle.std.specs.List.{list_all};
 ghost use Rattle.std.specs.Option.{option_map};
-ghost use Rattle.clearview.specs.Words.{command_of, IsShort, file_command, plain_of, is_digit, is_name, number_from, budget_of, input_of, drill_number, drill_of, drill_runs, keeps_book};
-ghost use Rattle.clearview.specs.Views.{command_view, order_view};
+ghost use Rattle.clearview.specs.Words.{command_of, Audit, IsShort, file_command, judges_report, pair_command, plain_of, is_digit, is_name, number_from, budget_of, input_of, drill_number, drill_of, drill_runs, keeps_book};
+ghost use Rattle.clearview.specs.Views.{charge_view, command_view, order_view};
 
 use cv_base::{Items, NoMemory};
 use hex::FromHexError;
@@ -18,7 +18,8 @@ const MAX_RUNS: u64 = 1_022;
 /// The most hexadecimal digits of an input: two for each of 65,536 bytes.
 const MAX_INPUT_DIGITS: usize = 131_072;
 
-/// What a list of words asks for, where no runs are posted to a book (docs/FORMATS.md, "Words").
+/// What a list of words asks for, where no runs are posted to a book and no report is judged
+/// (docs/FORMATS.md, "Words").
 #[derive(Debug, Drop)]
 pub enum Command<'a> {
     /// To run an image for at most `budget` turns, 1 to 10,000,000, with an input of at most
@@ -55,6 +56,13 @@ pub enum Order<'a> {
     Drill { number: u64, runs: u32 },
 }
 
+/// A report to be judged against its job.
+#[derive(Clone, Copy, Debug)]
+pub struct Charge<'a> {
+    pub job: &'a str,
+    pub report: &'a str,
+}
+
 /// What words ask for, where the runs are posted to a book; None where they ask for something else
 /// (docs/FORMATS.md, "Words").
 pub fn order_in(words: &[String]) -> Option<Order<'_>>
@@ -63,15 +71,35 @@ pub fn order_in(words: &[String]) -> Option<Order<'_>>
     ensures short { IfSome result (λ o. IsShort (order_view o)) }
 {
     match words {
-        [name, job] if name.as_str() == "run" && is_name(job.as_str()) => {
-            let job = job.as_str();
-            Some(Order::Run { job })
-        }
-        [name, number, runs] if name.as_str() == "drill" => {
-            drill_in(number.as_str(), runs.as_str())
-        }
+        [name, job] => run_in(name.as_str(), job.as_str()),
+        [name, number, runs] => drill_order(name.as_str(), number.as_str(), runs.as_str()),
         _ => None,
     }
+}
+
+/// The run that two words ask for.
+fn run_in<'a>(name: &str, job: &'a str) -> Option<Order<'a>>
+    ensures some { IfSome result (λ o. file_command name.now job.now ≡ Some (order_view o)) }
+    ensures none { result ≡ None → keeps_book (file_command name.now job.now) ≡ false }
+    ensures short { IfSome result (λ o. IsShort (order_view o)) }
+{
+    if name == "run" && is_name(job) {
+        return Some(Order::Run { job });
+    }
+    None
+}
+
+/// The drill that three words ask for.
+#[tactic(auto, using(crate::proofs::Orders::keeps_pair))]
+fn drill_order<'a>(name: &str, number: &str, runs: &str) -> Option<Order<'a>>
+    ensures some { IfSome result (λ o. pair_command name.now number.now runs.now ≡ Some (order_view o)) }
+    ensures none { result ≡ None → keeps_book (pair_command name.now number.now runs.now) ≡ false }
+    ensures short { IfSome result (λ o. IsShort (order_view o)) }
+{
+    if name != "drill" {
+        return None;
+    }
+    drill_in(number, runs)
 }
 
 /// The drill that words ask for.
@@ -84,10 +112,45 @@ fn drill_in<'a>(number: &str, runs: &str) -> Option<Order<'a>>
     Some(Order::Drill { number, runs })
 }
 
-/// The command that words are, whose runs are not posted to a book; None where they are none
-/// (docs/FORMATS.md, "Words"). Memory is taken only for the input of a command.
+/// The report that words ask to judge, and its job; None where they ask for something else
+/// (docs/FORMATS.md, "Words").
+pub fn charge_in(words: &[String]) -> Option<Charge<'_>>
+    ensures some { IfSome result (λ c. command_of (map string_bytes words.now) ≡ Some (charge_view c)) }
+    ensures none { result ≡ None → judges_report (command_of (map string_bytes words.now)) ≡ false }
+{
+    match words {
+        [name, job, report] => charge_of(name.as_str(), job.as_str(), report.as_str()),
+        _ => None,
+    }
+}
+
+/// The report that three words ask to judge.
+fn charge_of<'a>(name: &str, job: &'a str, report: &'a str) -> Option<Charge<'a>>
+    ensures some { IfSome result (λ c. pair_command name.now job.now report.now ≡ Some (charge_view c)) }
+    ensures none { result ≡ None → judges_report (pair_command name.now job.now report.now) ≡ false }
+{
+    if is_charge(name, job, report) {
+        return Some(Charge { job, report });
+    }
+    None
+}
+
+/// Whether three words ask to judge a report.
+#[tactic(auto, using(crate::proofs::Orders::audit_asked, crate::proofs::Orders::audit_unasked))]
+fn is_charge(name: &str, job: &str, report: &str) -> bool
+    ensures asked { result ≡ true → pair_command name.now job.now report.now ≡ Some (Audit job.now report.now) }
+    ensures none { result ≡ false → judges_report (pair_command name.now job.now report.now) ≡ false }
+{
+    let audits = name == "audit";
+    let names = is_name(job) && is_name(report);
+    audits && names
+}
+
+/// The command that words are, which posts no runs to a book and judges no report; None where they are
+/// none (docs/FORMATS.md, "Words"). Memory is taken only for the input of a command.
 pub fn read<'a>(alloc: Global, words: &'a [String]) -> Result<Option<Command<'a>>, NoMemory>
-    requires { keeps_book (command_of (map string_bytes words.now)) ≡ false }
+    requires book { keeps_book (command_of (map string_bytes words.now)) ≡ false }
+    requires report { judges_report (command_of (map string_bytes words.now)) ≡ false }
     ensures value { IfOk result (λ o. option_map command_view o ≡ command_of (map string_bytes words.now)) }
     ensures short { IfOk result (λ o. IfSome o (λ c. IsShort (command_view c))) }
     ensures memory { IsErr result → IsSome (command_of (map string_bytes words.now)) }

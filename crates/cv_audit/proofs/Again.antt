@@ -12,7 +12,6 @@ use Rattle.cv_exec.specs.RecordOf.{IsHonestUnder}
 use Rattle.cv_histories.specs.Honest.{IsHonest, IsJoined, IsOfMode}
 use Rattle.cv_histories.specs.Rows.{written}
 use Rattle.cv_histories.specs.Runs.{Run, run_at}
-use Rattle.cv_histories.specs.Seen.{is_live}
 use Rattle.cv_runs.specs.PatchedRun.{Table}
 use Rattle.cv_audit.specs.Clauses.{IsOfPlan}
 use Rattle.cv_audit.specs.Rerun.{IsNotHonest}
@@ -75,9 +74,6 @@ mode_with (Some r) mode lives of_plan = of_plan ∙ lives
 -- the mode of an entry of a live run
 pub live_mode : (plan : PlanOf) (e : Entry) → IsLiveRun plan e.run → IsOfPlan plan e → e.mode ≡ Live
 live_mode plan e lives of_plan = mode_with (run_at plan e.run) e.mode lives of_plan
-
-pub is_live_mode : (plan : PlanOf) (e : Entry) → IsLiveRun plan e.run → IsOfPlan plan e → is_live e.mode ≡ true
-is_live_mode plan e lives of_plan = ap is_live (live_mode plan e lives of_plan)
 
 -- an honest entry of a live run has joined rows
 pub not_joined : (plan : PlanOf) (versions : List Table) (e : Entry) → IsLiveRun plan e.run → IsOfPlan plan e → (IsJoined e.adopted → ⊥) → IsNotHonest plan versions e

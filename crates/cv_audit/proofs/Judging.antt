@@ -9,7 +9,6 @@ use Rattle.cv_core.proofs.Room.{has_room}
 use Rattle.cv_histories.specs.Honest.{IsHonest}
 use Rattle.cv_histories.specs.Legal.{IsLegal, IsWhole, MayFollow}
 use Rattle.cv_histories.specs.Runs.{run_at, runs}
-use Rattle.cv_histories.specs.Seen.{is_live, observed_of}
 use Rattle.cv_histories.specs.Versions.{ledger, newest}
 use Rattle.cv_manager.specs.ManagerOf.{ManagerOf, empty_manager, with_entry}
 use Rattle.cv_observe.specs.StandsFor.{StandsFor, SummaryOf}

@@ -1,10 +1,10 @@
-ghost use Rattle.std.specs.Prelude.{◌≡◌, None, false, true, map, IfOk, IfSome, OnOk};
+ghost use Rattle.std.specs.Prelude.{◌≡◌, None, true, map, IfOk, IfSome};
 ghost use Rattle.cv_audit.specs.Rerun.{IsAgain, IsNotHonest, MayRun};
 ghost use Rattle.cv_exec.specs.LearnRun.{IsLearnRun};
 ghost use Rattle.cv_exec.specs.LiveRun.{IsLiveRun};
 ghost use Rattle.cv_exec.specs.RecordOf.{IsHonestUnder};
 ghost use Rattle.cv_histories.specs.Runs.{run_at};
-ghost use Rattle.cv_histories.specs.Seen.{is_live, observed_of};
+ghost use Rattle.cv_histories.specs.Seen.{is_observed, observed_of};
 ghost use Rattle.cv_observe.specs.StandsFor.{StandsFor};
 
 use crate::one_honest_entry;
@@ -17,8 +17,8 @@ use std::alloc::Global;
 use std::sync::Arc;
 
 /// The record of the entry's run, run again under the versions that the entry says, where the entry is
-/// that of this run; None exactly where it is not honest. After a learn run the arena's summary is of
-/// that run.
+/// that of this run; None exactly where it is not honest. Where the run is learned from, the
+/// arena's summary is of it.
 pub(crate) fn run_again(
     alloc: Global,
     plan: &Plan,
@@ -30,7 +30,7 @@ pub(crate) fn run_again(
     requires may { MayRun plan.now (map (λ t. t.value) versions.now) entry.now }
     ensures again { IfOk result (λ found. IfSome found (λ r. IsAgain plan.now (map (λ t. t.value) versions.now) entry.now r)) }
     ensures not { IfOk result (λ found. found ≡ None → IsNotHonest plan.now (map (λ t. t.value) versions.now) entry.now) }
-    ensures seen { OnOk result (is_live entry.now.mode ≡ false → StandsFor arena.new.summary (observed_of plan.now (run_at plan.now entry.now.run))) }
+    ensures seen { IfOk result (λ found. IfSome found (λ r. is_observed r.entry ≡ true → StandsFor arena.new.summary (observed_of plan.now (run_at plan.now r.entry.run)))) }
     ensures plan { arena.new.plan ≡ arena.old.plan }
 {
     match mode_of(plan, entry.run) {
@@ -53,7 +53,7 @@ fn learn_again(
     requires learns { IsLearnRun plan.now entry.now.run }
     ensures again { IfOk result (λ found. IfSome found (λ r. IsAgain plan.now (map (λ t. t.value) versions.now) entry.now r)) }
     ensures not { IfOk result (λ found. found ≡ None → IsNotHonest plan.now (map (λ t. t.value) versions.now) entry.now) }
-    ensures seen { OnOk result (StandsFor arena.new.summary (observed_of plan.now (run_at plan.now entry.now.run))) }
+    ensures seen { IfOk result (λ found. IfSome found (λ r. is_observed r.entry ≡ true → StandsFor arena.new.summary (observed_of plan.now (run_at plan.now r.entry.run)))) }
     ensures plan { arena.new.plan ≡ arena.old.plan }
 {
     one_honest_entry();
@@ -75,7 +75,7 @@ fn live_again(
     requires lives { IsLiveRun plan.now entry.now.run }
     ensures again { IfOk result (λ found. IfSome found (λ r. IsAgain plan.now (map (λ t. t.value) versions.now) entry.now r)) }
     ensures not { IfOk result (λ found. found ≡ None → IsNotHonest plan.now (map (λ t. t.value) versions.now) entry.now) }
-    ensures live { is_live entry.now.mode ≡ true }
+    ensures seen { IfOk result (λ found. IfSome found (λ r. is_observed r.entry ≡ true → StandsFor arena.new.summary (observed_of plan.now (run_at plan.now r.entry.run)))) }
     ensures plan { arena.new.plan ≡ arena.old.plan }
 {
     one_honest_entry();

@@ -1,4 +1,4 @@
-ghost use Rattle.std.specs.Prelude.{◌≡◌, [], None, false, IfOk, IfSome, MatchOption, OnOk, length};
+ghost use Rattle.std.specs.Prelude.{◌≡◌, [], None, true, IfOk, IfSome, MatchOption, OnOk, length};
 ghost use Rattle.cv_audit.specs.Clauses.{Breaks};
 ghost use Rattle.cv_audit.specs.Floors.{AreFloors, PassesFirst};
 ghost use Rattle.cv_audit.specs.Judged.{IsBookOf, IsLeast, IsRebuilt, IsVerdict, IsVerdictOf, IsWrong};
@@ -7,7 +7,7 @@ ghost use Rattle.cv_base.specs.PlanOf.{IsPlan};
 ghost use Rattle.cv_blocks.specs.TextMap.{text_only};
 ghost use Rattle.cv_histories.specs.Legal.{IsLegal, IsWhole, MayFollow};
 ghost use Rattle.cv_histories.specs.Runs.{run_at, runs};
-ghost use Rattle.cv_histories.specs.Seen.{is_live, observed_of};
+ghost use Rattle.cv_histories.specs.Seen.{is_observed, observed_of};
 ghost use Rattle.cv_histories.specs.Versions.{newest};
 ghost use Rattle.cv_manager.specs.ManagerOf.{ledger_in, with_entry};
 ghost use Rattle.cv_observe.specs.StandsFor.{StandsFor};
@@ -133,7 +133,7 @@ fn keep(
     requires floors { AreFloors book.old.plan book.old.past floors.old.items }
     requires follows { MayFollow book.old.plan book.old.past ran.entry }
     requires text { summary.now.text ≡ text_only book.old.plan.image }
-    requires seen { is_live ran.entry.mode ≡ false → StandsFor summary.now (observed_of book.old.plan (run_at book.old.plan ran.entry.run)) }
+    requires seen { is_observed ran.entry ≡ true → StandsFor summary.now (observed_of book.old.plan (run_at book.old.plan ran.entry.run)) }
     ensures posted { OnOk result (book.new ≡ with_entry book.old ran.entry) }
     ensures floors { OnOk result (AreFloors book.new.plan book.new.past floors.new.items) }
 {
@@ -176,7 +176,7 @@ fn again(
     requires first { PassesFirst book.now.plan book.now.past entry.now }
     ensures again { IfOk result (λ found. IfSome found (λ r. IsAgain book.now.plan (ledger_in book.now).versions entry.now r)) }
     ensures not { IfOk result (λ found. found ≡ None → IsNotHonest book.now.plan (ledger_in book.now).versions entry.now) }
-    ensures seen { OnOk result (is_live entry.now.mode ≡ false → StandsFor arena.new.summary (observed_of book.now.plan (run_at book.now.plan entry.now.run))) }
+    ensures seen { IfOk result (λ found. IfSome found (λ r. is_observed r.entry ≡ true → StandsFor arena.new.summary (observed_of book.now.plan (run_at book.now.plan r.entry.run)))) }
     ensures plan { arena.new.plan ≡ arena.old.plan }
 {
     let versions = book.manager().versions();

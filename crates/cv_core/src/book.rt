@@ -1,9 +1,9 @@
-ghost use Rattle.std.specs.Prelude.{◌≡◌, false, IfErr, IfOk, OnErr, OnOk};
+ghost use Rattle.std.specs.Prelude.{◌≡◌, true, IfErr, IfOk, OnErr, OnOk};
 ghost use Rattle.cv_base.specs.WellFormed.{IsImage};
 ghost use Rattle.cv_blocks.specs.TextMap.{text_only};
 ghost use Rattle.cv_histories.specs.Legal.{IsLegal, MayFollow};
 ghost use Rattle.cv_histories.specs.Runs.{run_at};
-ghost use Rattle.cv_histories.specs.Seen.{is_live, observed_of};
+ghost use Rattle.cv_histories.specs.Seen.{is_observed, observed_of};
 ghost use Rattle.cv_histories.specs.Unfired.{UnfiredArePlain};
 ghost use Rattle.cv_manager.specs.ManagerOf.{empty_manager, version_added, with_entry};
 ghost use Rattle.cv_observe.specs.StandsFor.{StandsFor};
@@ -68,8 +68,8 @@ impl Book {
 
     /// Posts the entry of a record, which may follow the history: the number of the version that it
     /// adds, `None` where the table is that of the last version. `summary` is of the plan's text and,
-    /// for a learn run, of that run. Where memory is refused the record comes back, and the book is as
-    /// it was.
+    /// where the record's run is learned from, of that run. Where memory is refused the record comes
+    /// back, and the book is as it was.
     pub fn post(
         &mut self,
         alloc: Global,
@@ -78,7 +78,7 @@ impl Book {
     ) -> Result<Option<u32>, Unbooked>
         requires follows { MayFollow self.old.plan self.old.past outcome.entry }
         requires text { summary.now.text ≡ text_only self.old.plan.image }
-        requires seen { is_live outcome.entry.mode ≡ false → StandsFor summary.now (observed_of self.old.plan (run_at self.old.plan outcome.entry.run)) }
+        requires seen { is_observed outcome.entry ≡ true → StandsFor summary.now (observed_of self.old.plan (run_at self.old.plan outcome.entry.run)) }
         ensures posted { OnOk result (self.new ≡ with_entry self.old outcome.entry) }
         ensures version { IfOk result (λ version. version ≡ version_added self.old outcome.entry) }
         ensures err { OnErr result (self.new ≡ self.old) }

@@ -1,10 +1,10 @@
-ghost use Rattle.std.specs.Prelude.{◌≡◌, ◌<◌, ◌+◌, false, true, length, IfOk, OnOk};
+ghost use Rattle.std.specs.Prelude.{◌≡◌, ◌<◌, ◌+◌, true, length, IfOk, OnOk};
 ghost use Rattle.cv_base.specs.PlanOf.{IsPlan};
 ghost use Rattle.cv_exec.specs.LearnRun.{IsLearnRun};
 ghost use Rattle.cv_exec.specs.LiveRun.{IsLiveRun};
 ghost use Rattle.cv_histories.specs.Legal.{IsWhole};
 ghost use Rattle.cv_histories.specs.Runs.{run_at, runs};
-ghost use Rattle.cv_histories.specs.Seen.{is_live, observed_of};
+ghost use Rattle.cv_histories.specs.Seen.{is_observed, observed_of};
 ghost use Rattle.cv_histories.specs.Serial.{serial};
 ghost use Rattle.cv_laws.specs.InOrder.{AreBelow, AreByWorkerZero, IsNext};
 ghost use Rattle.cv_observe.specs.StandsFor.{StandsFor};
@@ -63,13 +63,13 @@ fn take(alloc: Global, book: &mut Book, arena: &mut Arena, run: u32) -> Result<(
     }
 }
 
-/// The record of the next run. After a learn run the arena's summary is of that run.
+/// The record of the next run. Where it is learned from, the arena's summary is of it.
 fn next_record(alloc: Global, book: &Book, arena: &mut Arena, run: u32) -> Result<Record, NoMemory>
     requires plan { arena.old.plan ≡ book.now.plan }
     requires worker { 0 < book.now.plan.workers }
     requires within { run < length (runs book.now.plan) }
     ensures next { IfOk result (λ r. IsNext book.now.plan book.now.past run r.entry) }
-    ensures seen { IfOk result (λ r. is_live r.entry.mode ≡ false → StandsFor arena.new.summary (observed_of book.now.plan (run_at book.now.plan r.entry.run))) }
+    ensures seen { IfOk result (λ r. is_observed r.entry ≡ true → StandsFor arena.new.summary (observed_of book.now.plan (run_at book.now.plan r.entry.run))) }
     ensures plan { arena.new.plan ≡ arena.old.plan }
 {
     match mode_of(book.plan(), run) {
@@ -98,7 +98,7 @@ fn live(alloc: Global, book: &Book, arena: &mut Arena, run: u32) -> Result<Recor
     requires worker { 0 < book.now.plan.workers }
     requires lives { IsLiveRun book.now.plan run }
     ensures next { IfOk result (λ r. IsNext book.now.plan book.now.past run r.entry) }
-    ensures live { IfOk result (λ r. is_live r.entry.mode ≡ true) }
+    ensures seen { IfOk result (λ r. is_observed r.entry ≡ true → StandsFor arena.new.summary (observed_of book.now.plan (run_at book.now.plan r.entry.run))) }
     ensures plan { arena.new.plan ≡ arena.old.plan }
 {
     let manager = book.manager();

@@ -1,12 +1,12 @@
 //! What lies in the lock: the book, with the master's seat.
-ghost use Rattle.std.specs.Prelude.{◌≡◌, ◌≤◌, ◌<◌, None, false, Some, length, slice_get, IfErr, IfOk, OnErr, OnOk};
+ghost use Rattle.std.specs.Prelude.{◌≡◌, ◌≤◌, ◌<◌, None, true, Some, length, slice_get, IfErr, IfOk, OnErr, OnOk};
 ghost use Rattle.cv_base.specs.PlanOf.{IsPlan};
 ghost use Rattle.cv_blocks.specs.TextMap.{text_only};
 ghost use Rattle.cv_desk.specs.Passes.{HasGrown, HasPosted, HasTicket, IsOutcome};
 ghost use Rattle.cv_desk.specs.Standing.{AreAfter, IsNoted};
 ghost use Rattle.cv_histories.specs.Legal.{IsLegal};
 ghost use Rattle.cv_histories.specs.Runs.{run_at};
-ghost use Rattle.cv_histories.specs.Seen.{is_live, observed_of};
+ghost use Rattle.cv_histories.specs.Seen.{is_observed, observed_of};
 ghost use Rattle.cv_histories.specs.Versions.{newest};
 ghost use Rattle.cv_manager.specs.ManagerOf.{ledger_in, with_entry};
 ghost use Rattle.cv_observe.specs.StandsFor.{StandsFor};
@@ -80,9 +80,9 @@ impl<N: Named> Desk<N> {
     }
 
     /// Appends the entry of a record to the book: the record is of the run whose ticket the pass has,
-    /// and adopted what the pass loaded for it. `summary` is of the plan's text and, for a learn run,
-    /// of that run. Where memory is refused the ticket and the record come back, and the book and what
-    /// the pass has in hand are as they were.
+    /// and adopted what the pass loaded for it. `summary` is of the plan's text and, where the run is
+    /// learned from, of that run. Where memory is refused the ticket and the record come back, and the
+    /// book and what the pass has in hand are as they were.
     pub fn post(
         &mut self,
         alloc: Global,
@@ -98,7 +98,7 @@ impl<N: Named> Desk<N> {
         requires ticket { HasTicket pass.old.me.0 ticket }
         requires outcome { IsOutcome pass.old.me.0 ticket outcome }
         requires text { summary.now.text ≡ text_only outcome.plan.image }
-        requires seen { is_live outcome.entry.mode ≡ false → StandsFor summary.now (observed_of outcome.plan (run_at outcome.plan outcome.entry.run)) }
+        requires seen { is_observed outcome.entry ≡ true → StandsFor summary.now (observed_of outcome.plan (run_at outcome.plan outcome.entry.run)) }
         ensures posted { OnOk result (self.new ≡ with_entry self.old outcome.entry) }
         ensures refused { OnErr result (self.new ≡ self.old) }
         ensures handed_back { IfErr result (λ unposted. (unposted.ticket ≡ ticket) × (unposted.outcome ≡ outcome)) }

@@ -1,10 +1,10 @@
 //! Passes of an office, and the runs that they draw.
-ghost use Rattle.std.specs.Prelude.{◌≡◌, ◌≤◌, ◌<◌, ◌+◌, [], false, Some, length, slice_get, IfErr, IfNone, IfOk, IfSome, OnErr, OnOk};
+ghost use Rattle.std.specs.Prelude.{◌≡◌, ◌≤◌, ◌<◌, ◌+◌, [], true, Some, length, slice_get, IfErr, IfNone, IfOk, IfSome, OnErr, OnOk};
 ghost use Rattle.cv_blocks.specs.TextMap.{text_only};
 ghost use Rattle.cv_desk.specs.Openings.{SettingOf};
 ghost use Rattle.cv_desk.specs.Passes.{HasGrown, HasPosted, HasTicket, IsOf, IsOfWorker, IsOutcome, IsPastRuns};
 ghost use Rattle.cv_histories.specs.Runs.{run_at};
-ghost use Rattle.cv_histories.specs.Seen.{is_live, observed_of};
+ghost use Rattle.cv_histories.specs.Seen.{is_observed, observed_of};
 ghost use Rattle.cv_observe.specs.StandsFor.{StandsFor};
 ghost use Rattle.cv_rule.specs.Steps.{drawn, entered};
 
@@ -131,7 +131,8 @@ impl<N: Named> Pass<N> {
     /// Posts the record of a run to the office's book. It is of the office's plan, of the run whose
     /// ticket this pass has and of this pass's worker; its adopted versions, written out, are those that
     /// this pass loaded since its last post, and its tables those that the pass knows of them. `summary`
-    /// is of the plan's text and, for a learn run, of that run. It takes the lock, and may wait.
+    /// is of the plan's text and, where the run is learned from, of that run. It takes the lock, and may
+    /// wait.
     ///
     /// Where memory is refused the ticket and the record come back, and what the pass has in hand, its
     /// loaded versions, floor and posts are as they were: the same can be posted again.
@@ -147,7 +148,7 @@ impl<N: Named> Pass<N> {
         requires ticket { HasTicket self.old ticket }
         requires outcome { IsOutcome self.old ticket outcome }
         requires text { summary.now.text ≡ text_only outcome.plan.image }
-        requires seen { is_live outcome.entry.mode ≡ false → StandsFor summary.now (observed_of outcome.plan (run_at outcome.plan outcome.entry.run)) }
+        requires seen { is_observed outcome.entry ≡ true → StandsFor summary.now (observed_of outcome.plan (run_at outcome.plan outcome.entry.run)) }
         ensures posted { OnOk result (HasPosted ticket.draw self.old self.new) }
         ensures as_before { OnErr result (HasGrown self.old self.new) }
         ensures again { OnErr result (HasTicket self.new ticket × IsOutcome self.new ticket outcome) }

@@ -24,7 +24,7 @@ calling_plan = record {
 
 abbrev pub calling_report : List ℕ
 calling_report = flat_map line (
-    codes "clearview report 1" ∷
+    codes "clearview report 2" ∷
     codes "job workers 1 checks 2 budget 1000 rounds 2 runs 6" ∷
     codes "entry 0 run 0 worker 0 mode learn adopted - end exit:7 turns 11 sites - output - tally - fired -" ∷
     codes "entry 1 run 1 worker 0 mode learn adopted - end exit:9 turns 11 sites - output - tally - fired -" ∷

@@ -24,7 +24,7 @@ copy_low_plan = record {
 
 abbrev pub copy_low_report : List ℕ
 copy_low_report = flat_map line (
-    codes "clearview report 1" ∷
+    codes "clearview report 2" ∷
     codes "job workers 1 checks 2 budget 1000 rounds 2 runs 16" ∷
     codes "entry 0 run 0 worker 0 mode learn adopted - end exit:16 turns 15 sites - output - tally - fired -" ∷
     codes "entry 1 run 1 worker 0 mode learn adopted - end exit:15 turns 15 sites - output - tally - fired -" ∷

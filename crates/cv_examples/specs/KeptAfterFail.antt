@@ -25,7 +25,7 @@ kept_after_fail_plan = record {
 
 abbrev pub kept_after_fail_entries : List ℕ
 kept_after_fail_entries = flat_map line (
-    codes "clearview report 1" ∷
+    codes "clearview report 2" ∷
     codes "job workers 1 checks 4 budget 1000 rounds 3 runs 23" ∷
     codes "entry 0 run 0 worker 0 mode learn adopted - end exit:0 turns 16 sites - output - tally - fired -" ∷
     codes "entry 1 run 1 worker 0 mode learn adopted - end exit:3 turns 16 sites - output - tally - fired -" ∷

@@ -25,7 +25,7 @@ loop_moderate_plan = record {
 
 abbrev pub loop_moderate_report : List ℕ
 loop_moderate_report = flat_map line (
-    codes "clearview report 1" ∷
+    codes "clearview report 2" ∷
     codes "job workers 1 checks 5 budget 160 rounds 2 runs 25" ∷
     codes "entry 0 run 0 worker 0 mode learn adopted - end exit:1 turns 17 sites - output - tally - fired -" ∷
     codes "entry 1 run 1 worker 0 mode learn adopted - end exit:2 turns 21 sites - output - tally - fired -" ∷

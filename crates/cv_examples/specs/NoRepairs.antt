@@ -24,7 +24,7 @@ no_repairs_plan = record {
 
 abbrev pub no_repairs_report : List ℕ
 no_repairs_report = flat_map line (
-    codes "clearview report 1" ∷
+    codes "clearview report 2" ∷
     codes "job workers 1 checks 8 budget 1000 rounds 2 runs 19" ∷
     codes "entry 0 run 0 worker 0 mode learn adopted - end exit:9 turns 14 sites - output - tally - fired -" ∷
     codes "entry 1 run 1 worker 0 mode learn adopted - end exit:201 turns 14 sites - output - tally - fired -" ∷

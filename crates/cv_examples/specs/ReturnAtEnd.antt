@@ -27,7 +27,7 @@ return_at_end_plan = record {
 
 abbrev pub return_at_end_entries : List ℕ
 return_at_end_entries = flat_map line (
-    codes "clearview report 1" ∷
+    codes "clearview report 2" ∷
     codes "job workers 1 checks 2 budget 1000 rounds 3 runs 18" ∷
     codes "entry 0 run 0 worker 0 mode learn adopted - end exit:1 turns 23 sites - output - tally - fired -" ∷
     codes "entry 1 run 1 worker 0 mode learn adopted - end exit:5 turns 23 sites - output - tally - fired -" ∷

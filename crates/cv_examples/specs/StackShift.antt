@@ -26,7 +26,7 @@ stack_shift_plan = record {
 
 abbrev pub stack_shift_report : List ℕ
 stack_shift_report = flat_map line (
-    codes "clearview report 1" ∷
+    codes "clearview report 2" ∷
     codes "job workers 1 checks 2 budget 1000 rounds 3 runs 21" ∷
     codes "entry 0 run 0 worker 0 mode learn adopted - end exit:0 turns 18 sites - output - tally - fired -" ∷
     codes "entry 1 run 1 worker 0 mode learn adopted - end exit:0 turns 63 sites - output - tally - fired -" ∷

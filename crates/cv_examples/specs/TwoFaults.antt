@@ -25,7 +25,7 @@ two_faults_plan = record {
 
 abbrev pub two_faults_entries : List ℕ
 two_faults_entries = flat_map line (
-    codes "clearview report 1" ∷
+    codes "clearview report 2" ∷
     codes "job workers 1 checks 3 budget 1000 rounds 2 runs 20" ∷
     codes "entry 0 run 0 worker 0 mode learn adopted - end exit:2 turns 17 sites - output - tally - fired -" ∷
     codes "entry 1 run 1 worker 0 mode learn adopted - end exit:3 turns 17 sites - output - tally - fired -" ∷

@@ -25,7 +25,7 @@ violated_once_and_twice_plan = record {
 
 abbrev pub violated_once_and_twice_report : List ℕ
 violated_once_and_twice_report = flat_map line (
-    codes "clearview report 1" ∷
+    codes "clearview report 2" ∷
     codes "job workers 1 checks 2 budget 40 rounds 2 runs 17" ∷
     codes "entry 0 run 0 worker 0 mode learn adopted - end exit:0 turns 18 sites - output - tally - fired -" ∷
     codes "entry 1 run 1 worker 0 mode learn adopted - end exit:103 turns 26 sites - output - tally - fired -" ∷

@@ -1,6 +1,6 @@
 -- A started run that has ended: its entry.
 use Rattle.std.proofs.Common.{◌≡◌, ◌<◌, ◌≤◌, ℕ, Bool, true, false, List, [], ◌∷◌, length, map, Option, Some, None, Result, Ok, Err, refl, sym, ap, ◌∙◌, subst, arith}
-use Rattle.std.specs.Prelude.{reverse, option_map, option_and_then, IfOk}
+use Rattle.std.specs.Prelude.{reverse, option_map, option_and_then, IfOk, IsSome}
 use Rattle.std.proofs.lemmas.List.{length-map, length-reverse, reverse-reverse}
 use Rattle.std.proofs.lemmas.Option.{same_Some}
 use Rattle.cv_base.specs.declared.ends.End.{End}
@@ -44,7 +44,9 @@ pub record IsEntryOf (plan : PlanOf) (summary : SummaryOf) (flying : Flying) (e 
   pub rows : rows_of (adopted_in (going_of flying)) ≡ e.adopted
   pub rises : NeverFalls e.adopted
   pub going : going_of flying ≡ Some (record { run = e.run; worker = e.worker; turns = e.turns; adopted = adopted_in (going_of flying) })
-  pub observed : is_live e.mode ≡ false → StandsFor summary (observed_of plan (run_at plan e.run))
+  pub learned : is_live e.mode ≡ false → StandsFor summary (observed_of plan (run_at plan e.run))
+  pub unseen : is_live e.mode ≡ true → StandsFor summary []
+  pub there : IsSome (run_at plan e.run)
   pub turns : e.turns ≤ plan.budget
   pub worker : e.worker < plan.workers
 
@@ -134,7 +136,9 @@ module _ (honest_law : FlownIsHonest) (plain_law : FlownIsPlain) (plan : PlanOf)
     rows = refl;
     rises = tt;
     going = refl;
-    observed = λ learns. learn_observed;
+    learned = λ learns. learn_observed;
+    unseen = λ lives. cc;
+    there = rw r.of_plan refl;
     turns = within honest_law plan m summary None [] g end is r;
     worker = r.worker;
   }
@@ -162,7 +166,9 @@ module _ (honest_law : FlownIsHonest) (rows_law : RowsAreJoined) (plan : PlanOf)
     rows = refl;
     rises = keeps.kept.rises;
     going = refl;
-    observed = λ learns. cc;
+    learned = λ learns. cc;
+    unseen = λ lives. r.keeps.1;
+    there = rw r.of_plan refl;
     turns = within honest_law plan m summary (Some p) p.spans.items g end is r;
     worker = r.worker;
   }

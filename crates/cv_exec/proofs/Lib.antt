@@ -4,6 +4,7 @@ pub mod Beginning
 pub mod Ended
 pub mod Entering
 pub mod Following
+pub mod Looking
 pub mod Moves
 pub mod Notes
 pub mod Numbered

@@ -1,23 +1,21 @@
 -- A run that is told by its number: what is known of it at its end.
-use Rattle.std.proofs.Common.{◌≡◌, ℕ, Bool, true, false, List, [], Option, Some, None, refl, sym, ap, ◌∙◌, subst}
-use Rattle.std.specs.Prelude.{IsSomeAnd, option_map, option_and_then}
+use Rattle.std.proofs.Common.{◌≡◌, ℕ, Bool, true, false, List, [], Option, Some, None, Result, Ok, Err, refl, sym, ap, ◌∙◌, subst}
+use Rattle.std.specs.Prelude.{IsSomeAnd, IfOk, OnOk, option_map, option_and_then}
 use Rattle.std.proofs.lemmas.Option.{same_Some}
 use Rattle.cv_base.specs.declared.entries.Entry.{Entry}
-use Rattle.cv_base.specs.declared.entries.Observation.{Observation}
-use Rattle.cv_base.specs.declared.plan.Mode.{Mode}
 use Rattle.cv_base.specs.declared.plan.Mode.TheVariants.{Learn, Live}
 use Rattle.cv_base.specs.PlanOf.{PlanOf}
-use Rattle.cv_exec.specs.ArenaOf.{Going, entry_of_going, flies_so, flight_in, is_over, seen_in, seen_so_far, wants}
+use Rattle.cv_exec.specs.ArenaOf.{Going, entry_of_going, flies_so, flight_in, is_over, wants}
 use Rattle.cv_exec.specs.LearnRun.{IsLearnRun, entry_by, entry_with, learn_steps, steps_with}
 use Rattle.cv_exec.specs.LiveRun.{IsLiveRun, Span, adoptions_of}
+use Rattle.cv_exec.specs.RecordOf.{RecordOf}
 use Rattle.cv_exec.proofs.Standing.{learn_no_entry}
-use Rattle.cv_histories.specs.Flight.{Flight, begun, done_in, flight_entry, flown, has_ended, may_enter}
+use Rattle.cv_histories.specs.Flight.{begun, flight_entry, flown, has_ended, may_enter}
 use Rattle.cv_histories.specs.Runs.{Run, run_at}
-use Rattle.cv_histories.specs.Seen.{is_live}
+use Rattle.cv_histories.specs.Seen.{is_live, observed_of}
 use Rattle.cv_laws.specs.Statements.{FlownIsOf, FlownIsPlain}
 use Rattle.cv_observe.specs.StandsFor.{StandsFor, SummaryOf}
 use Rattle.cv_runs.specs.Learned.{observations}
-use Rattle.cv_runs.specs.PatchedRun.{steps_of}
 
 abbrev going_so : ℕ → ℕ → ℕ → List Span → Going
 going_so number worker turns spans = record { run = number; worker = worker; turns = turns; adopted = spans }
@@ -52,22 +50,19 @@ pub learn_entry_by : FlownIsPlain → (plan : PlanOf) (number worker turns : ℕ
     → entry_of_going plan (Some (record { run = number; worker = worker; turns = turns; adopted = [] })) ≡ Some e → entry_by plan number worker ≡ Some e
 learn_entry_by law plan number worker turns e learns over is = entry_by_run law plan number worker turns e (run_at plan number) refl learns over is
 
-seen_by_run : FlownIsOf → FlownIsPlain → (plan : PlanOf) (number worker turns : ℕ) (o : Option Run) → run_at plan number ≡ o → IsSomeAnd o (λ (run : Run). run.mode ≡ Learn) → is_over plan (Some (going_so number worker turns [])) ≡ true
-    → seen_so_far plan (Some (going_so number worker turns [])) ≡ observations (steps_with plan o)
-seen_by_run of plain plan number worker turns None at learns over = absurd learns
-seen_by_run of plain plan number worker turns (Some run) at learns over =
-    let f = flown plan [] (begun plan number run) turns in
-    let ended : has_ended plan f ≡ true = sym (ap (flies_so (has_ended plan)) (there plan number worker turns [] run at)) ∙ over in
-    let mode : f.run.mode ≡ Learn = ap (λ (r : Run). r.mode) (of plan [] number run turns).1 ∙ learns in
-    ap seen_in (there plan number worker turns [] run at)
-    ∙ ap (λ (mode : Mode). elim (is_live mode) as (λ b. List Observation) [ true ↦ [] | false ↦ observations (steps_of (done_in f)) ]) mode
-    ∙ ap observations (plain plan number worker run turns learns ended).0
+seen_with : (plan : PlanOf) (number worker : ℕ) (e : Entry) (summary : SummaryOf) (o : Option Run) → run_at plan number ≡ o → option_map (entry_with plan number worker) o ≡ Some e
+    → (is_live e.mode ≡ false → StandsFor summary (observed_of plan (run_at plan e.run))) → StandsFor summary (observations (steps_with plan o))
+seen_with plan number worker e summary None at is seen = cc
+seen_with plan number worker e summary (Some run) at is seen =
+    let same : entry_with plan number worker run ≡ e = same_Some (entry_with plan number worker run) e is in
+    let of : run_at plan e.run ≡ Some run = ap (λ (e : Entry). run_at plan e.run) (sym same) ∙ at in
+    subst (λ (o : Option Run). StandsFor summary (observed_of plan o)) of (seen (ap (λ (e : Entry). is_live e.mode) (sym same)))
 
--- what was seen in it
-pub learn_seen_by : FlownIsOf → FlownIsPlain → (plan : PlanOf) (summary : SummaryOf) (number worker turns : ℕ) → IsLearnRun plan number → is_over plan (Some (record { run = number; worker = worker; turns = turns; adopted = [] })) ≡ true
-    → StandsFor summary (seen_so_far plan (Some (record { run = number; worker = worker; turns = turns; adopted = [] }))) → StandsFor summary (observations (learn_steps plan number))
-learn_seen_by of plain plan summary number worker turns learns over seen =
-    subst (StandsFor summary) (seen_by_run of plain plan number worker turns (run_at plan number) refl learns over) seen
+-- what was seen in it, where the summary is of the run of its entry
+pub learn_seen_by : {E : Type 0} (result : Result RecordOf E) (plan : PlanOf) (number worker : ℕ) (summary : SummaryOf) → IfOk result (λ (r : RecordOf). entry_by plan number worker ≡ Some r.entry)
+    → IfOk result (λ (r : RecordOf). is_live r.entry.mode ≡ false → StandsFor summary (observed_of plan (run_at plan r.entry.run))) → OnOk result (StandsFor summary (observations (learn_steps plan number)))
+learn_seen_by (Ok r) plan number worker summary is seen = seen_with plan number worker r.entry summary (run_at plan number) refl is seen
+learn_seen_by (Err e) plan number worker summary is seen = tt
 
 -- ---- live runs
 

@@ -1,6 +1,6 @@
 -- How a run ends with a turn, and its sites, read from the core in which it ended (docs/REPAIR.md,
 -- "Entries").
-use Rattle.std.specs.Prelude.{ℕ, ◌==◌, if◌then◌else◌, List, [], ◌∷◌, map, take, Option, Some, None}
+use Rattle.std.specs.Prelude.{ℕ, ◌==◌, ◌-◌, if◌then◌else◌, List, [], ◌∷◌, map, take, Option, Some, None}
 use Rattle.cv_base.specs.declared.ends.End.{End}
 use Rattle.cv_base.specs.declared.ends.End.TheVariants.{Failure, Budget}
 use Rattle.cv_runs.specs.State.{Outcome, Next, Ended}
@@ -20,3 +20,8 @@ core_sites core = take 4 (core.pc ∷ map (λ (f : Frame). f.call) core.frames)
 abbrev pub end_sites : End → Core → List ℕ
 end_sites (Failure id detail) core = core_sites core
 end_sites _ core = []
+
+-- the turns that a budget still allows after one more: none where the run has ended
+abbrev pub left_after : ℕ → Outcome → ℕ
+left_after left (Next s transfer) = left - 1
+left_after left (Ended end) = 0

@@ -9,7 +9,7 @@ ghost use Rattle.cv_exec.specs.LearnRun.{IsLearnRun, learn_steps, entry_by};
 ghost use Rattle.cv_exec.specs.LiveRun.{HaveTables, IsLiveRun, MayAdopt, Span, rows_of};
 ghost use Rattle.cv_exec.specs.Passing.{with_turns};
 ghost use Rattle.cv_exec.specs.RecordOf.{IsHonestUnder};
-ghost use Rattle.cv_histories.specs.Seen.{is_live, observed_of};
+ghost use Rattle.cv_histories.specs.Seen.{is_live, is_observed, observed_of};
 ghost use Rattle.cv_histories.specs.Unfired.{SaysPlain};
 ghost use Rattle.cv_histories.specs.Flight as flight;
 ghost use Rattle.cv_histories.specs.Flight.{Flight, begun, turned};
@@ -23,11 +23,13 @@ ghost use Rattle.cv_runs.specs.Learned.{observations};
 
 use crate::ending::{entry_of, spans_in, told};
 use crate::flying::{Flying, Started, flying_for};
+use crate::look::look;
 use crate::plans::{budget_of, input_of, mode_of};
 use crate::turns::{see, turn};
 use crate::{Record, SharedPlan};
-use cv_base::{Entry, NoMemory, PatchTable, Plan, TextRange};
+use cv_base::{Entry, Mode, NoMemory, PatchTable, Plan, TextRange};
 use cv_blocks::TextMap;
+use cv_histories::is_observed;
 use cv_laws::{flown_is_honest, flown_is_of, flown_is_plain, rows_are_joined, unfired_is_plain};
 use cv_machine::Machine;
 use cv_observe::Summary;
@@ -171,8 +173,9 @@ impl Arena {
         }
     }
 
-    /// The record of a run that has ended, which is no longer going on then. Where memory is refused
-    /// the arena stays as it was.
+    /// The record of a run that has ended, which is no longer going on then. Of a live run that is
+    /// learned from, the plain run is run and seen, which takes its time once more. Where memory is
+    /// refused the arena stays as it was.
     pub fn finish(&mut self, alloc: Global) -> Result<Record, NoMemory>
         requires { has_ended self.old ≡ true }
         ensures plan { IfOk result (λ r. r.plan ≡ self.old.plan) }
@@ -181,16 +184,42 @@ impl Arena {
         ensures going { IfOk result (λ r. self.old.going ≡ Some (record { run = r.entry.run; worker = r.entry.worker; turns = r.entry.turns; adopted = r.adopted })) }
         ensures turns { IfOk result (λ r. r.entry.turns ≤ self.old.plan.budget) }
         ensures worker { IfOk result (λ r. r.entry.worker < self.old.plan.workers) }
-        ensures seen { OnOk result (StandsFor self.new.summary (seen_so_far self.old.plan self.old.going)) }
-        ensures observed { IfOk result (λ r. is_live r.entry.mode ≡ false → StandsFor self.new.summary (observed_of self.old.plan (run_at self.old.plan r.entry.run))) }
-        ensures left { OnOk result (self.new ≡ record self.old { going = None }) }
+        ensures learned { IfOk result (λ r. is_live r.entry.mode ≡ false → StandsFor self.new.summary (observed_of self.old.plan (run_at self.old.plan r.entry.run))) }
+        ensures observed { IfOk result (λ r. is_observed r.entry ≡ true → StandsFor self.new.summary (observed_of self.old.plan (run_at self.old.plan r.entry.run))) }
+        ensures unseen { IfOk result (λ r. is_live r.entry.mode ≡ true → is_observed r.entry ≡ false → StandsFor self.new.summary []) }
+        ensures left { OnOk result (self.new.going ≡ None) }
+        ensures kept { self.new.plan ≡ self.old.plan }
         ensures err { OnErr result (self.new ≡ self.old) }
     {
         let plan = self.plan.shared()?;
         let entry = self.entry(alloc)?;
         let flying = mem::replace(&mut self.flying, Flying::Nothing);
         let spans = spans_in(alloc, flying);
+        self.look_again(alloc, &entry);
         Ok(Record { plan, entry, spans })
+    }
+
+    /// Where the entry is of a live run that is learned from, the summary is of its plain run then,
+    /// which is run here; else it stays as it is.
+    fn look_again(&mut self, alloc: Global, entry: &Entry)
+        requires none { self.old.going ≡ None }
+        requires run { IsSome (run_at self.old.plan entry.now.run) }
+        ensures learned { is_live entry.now.mode ≡ false → self.new.summary ≡ self.old.summary }
+        ensures observed { is_live entry.now.mode ≡ true → is_observed entry.now ≡ true → StandsFor self.new.summary (observed_of self.old.plan (run_at self.old.plan entry.now.run)) }
+        ensures unseen { is_observed entry.now ≡ false → self.new.summary ≡ self.old.summary }
+        ensures none { self.new.going ≡ None }
+        ensures plan { self.new.plan ≡ self.old.plan }
+    {
+        if let Mode::Learn = entry.mode {
+            return;
+        }
+        if !is_observed(entry) {
+            return;
+        }
+        let plan = self.plan.get();
+        let input = input_of(plan, entry.run);
+        let budget = budget_of(plan);
+        look(alloc, &mut self.machine, &mut self.summary, input, budget);
     }
 
     /// The entry of a run that has ended.
@@ -201,9 +230,11 @@ impl Arena {
         ensures rows { IfOk result (λ e. rows_of (adopted_in self.now.going) ≡ e.adopted) }
         ensures going { IfOk result (λ e. self.now.going ≡ Some (record { run = e.run; worker = e.worker; turns = e.turns; adopted = adopted_in self.now.going })) }
         ensures rises { IfOk result (λ e. NeverFalls e.adopted) }
-        ensures observed { IfOk result (λ e. is_live e.mode ≡ false → StandsFor self.now.summary (observed_of self.now.plan (run_at self.now.plan e.run))) }
+        ensures learned { IfOk result (λ e. is_live e.mode ≡ false → StandsFor self.now.summary (observed_of self.now.plan (run_at self.now.plan e.run))) }
+        ensures unseen { IfOk result (λ e. is_live e.mode ≡ true → StandsFor self.now.summary []) }
         ensures turns { IfOk result (λ e. e.turns ≤ self.now.plan.budget) }
         ensures worker { IfOk result (λ e. e.worker < self.now.plan.workers) }
+        ensures run { IfOk result (λ e. IsSome (run_at self.now.plan e.run)) }
         ensures seen { StandsFor self.now.summary (seen_so_far self.now.plan self.now.going) }
     {
         flown_is_honest();
@@ -252,7 +283,8 @@ impl Arena {
     /// it has ended; and `finish`. A table is asked for only where the version is another than the
     /// last one. Where memory is refused the arena can run again.
     ///
-    /// Where no repair fired, the entry says what the run without patches does.
+    /// Where no repair fired, the entry says what the run without patches does. The arena's summary
+    /// is of that run where it is learned from, and of nothing where it is not.
     pub fn live<A: Adopter, W: Watcher>(
         &mut self,
         alloc: Global,
@@ -275,6 +307,8 @@ impl Arena {
         ensures rises { IfOk result (λ r. NeverFalls r.entry.adopted) }
         ensures unfired { IfOk result (λ r. r.entry.fired ≡ [] → SaysPlain plan.now r.entry) }
         ensures turns { IfOk result (λ r. r.entry.turns ≤ plan.now.budget) }
+        ensures observed { IfOk result (λ r. is_observed r.entry ≡ true → StandsFor self.new.summary (observed_of plan.now (run_at plan.now r.entry.run))) }
+        ensures unseen { IfOk result (λ r. is_observed r.entry ≡ false → StandsFor self.new.summary []) }
         ensures grown { IsGrown (A.tables adopter.old) (A.tables adopter.new) }
         ensures origin { A.origin adopter.new ≡ A.origin adopter.old }
         ensures left { OnOk result (self.new.going ≡ None) }
@@ -433,8 +467,9 @@ impl Arena {
         self.flying.turns()
     }
 
-    /// What was seen before the turns of the learn run that is going on or, after `finish`, of the one
-    /// that was finished; nothing in a live run.
+    /// What was seen before the turns of the learn run that is going on, and nothing while a live run
+    /// is. After `finish` what was seen in the run that was finished: in a live run that is not learned
+    /// from nothing.
     pub fn summary(&self) -> &Summary
         ensures value { result.now ≡ self.now.summary }
         ensures text { result.now.text ≡ text_only self.now.plan.image }

@@ -6,6 +6,7 @@
 mod arena;
 mod ending;
 mod flying;
+mod look;
 mod patched;
 mod plans;
 mod record;

@@ -1,4 +1,4 @@
-ghost use Rattle.std.specs.Prelude.{◌≡◌, ◌++◌, [], ◌∷◌, List, OnOk, OnErr, IsTrue};
+ghost use Rattle.std.specs.Prelude.{◌≡◌, ◌++◌, [], ◌∷◌, List, IsOk, OnOk, OnErr, IsTrue};
 ghost use Rattle.cv_base.specs.declared.entries.Observation.{Observation};
 ghost use Rattle.cv_base.specs.Picture.{is_point};
 ghost use Rattle.cv_exec.specs.RunEnds.{end_with};
@@ -16,6 +16,7 @@ use cv_shadow::Core;
 /// Sees what stands before a turn.
 pub(crate) fn see(summary: &mut Summary, core: &Core) -> Result<(), NoMemory>
     requires { IsTrue (is_point summary.old.text core.now.pc) }
+    ensures always { IsOk result }
     ensures ok { OnOk result ((seen : List Observation) → StandsFor summary.old seen → StandsFor summary.new (seen ++ record { point = core.now.pc; regs = core.now.regs; frame_sp = frame_sp core.now.frames } ∷ [])) }
     ensures err { OnErr result (summary.new ≡ summary.old) }
     ensures text { summary.new.text ≡ summary.old.text }

@@ -101,7 +101,7 @@ change_lines changes =
 
 abbrev pub report_of : PlanOf → List Entry → Ledger → List ℕ
 report_of plan past l =
-    line (codes "clearview report 1") ++ line (job_line plan) ++ entry_lines past ++ version_lines 0 (makers plan past) l.versions
+    line (codes "clearview report 2") ++ line (job_line plan) ++ entry_lines past ++ version_lines 0 (makers plan past) l.versions
     ++ case_lines plan l.seen 0 (cases plan l.seen) ++ change_lines (changes plan l.seen)
     ++ line (codes "learned " ++ decimal (length (learned_of plan l.seen))) ++ line (codes "end")
 

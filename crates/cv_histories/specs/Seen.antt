@@ -11,6 +11,7 @@ use Rattle.cv_base.specs.declared.ends.FailureKind.{FailureKind}
 use Rattle.cv_base.specs.declared.ends.FailureKind.TheVariants.{IllegalTransfer, HeapGuard, ShadowStack, Crash}
 use Rattle.cv_base.specs.declared.entries.Adopted.{Adopted}
 use Rattle.cv_base.specs.declared.entries.Entry.{Entry}
+use Rattle.cv_base.specs.declared.entries.FiredRow.{FiredRow}
 use Rattle.cv_base.specs.declared.entries.Observation.{Observation}
 use Rattle.cv_base.specs.declared.invariants.Invariant.{Invariant}
 use Rattle.cv_base.specs.declared.plan.Mode.{Mode}
@@ -75,9 +76,15 @@ abbrev pub is_failure : FailureId → Option FailureId → Bool
 is_failure id None = false
 is_failure id (Some other) = is_same_failure id other
 
--- the runs that are learned from: learn runs that ended by exit
+-- nothing fired
+abbrev pub is_unfired : List FiredRow → Bool
+is_unfired [] = true
+is_unfired _ = false
+
+-- the runs that are learned from: those that ended by exit, of the live runs those alone in which
+-- nothing fired
 abbrev pub is_observed : Entry → Bool
-is_observed e = elim (is_live e.mode) [ true ↦ false | false ↦ is_exit e.end ]
+is_observed e = is_exit e.end && elim (is_live e.mode) [ true ↦ is_unfired e.fired | false ↦ true ]
 
 abbrev pub observed_of : PlanOf → Option Run → List Observation
 observed_of plan None = []

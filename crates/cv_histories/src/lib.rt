@@ -2,6 +2,10 @@
 //! legal, and its report; as definitions alone (docs/REPAIR.md).
 #![tactic(auto)]
 
+mod observed;
+
+pub use observed::is_observed;
+
 /// The most cases that a history opens.
 pub const MOST_CASES: u32 = 64;
 /// The most candidates that a case keeps.

@@ -2,7 +2,7 @@ ghost use Rattle.std.specs.Prelude.{◌≡◌, ℕ};
 ghost use Rattle.std.specs.List.{list_any};
 ghost use Rattle.cv_histories.specs.Classes.{is_check_of, is_checked_failure};
 ghost use Rattle.cv_histories.specs.Scores.{is_enforce_of};
-ghost use Rattle.cv_histories.specs.Seen.{is_failure, is_observed, live_failure};
+ghost use Rattle.cv_histories.specs.Seen.{is_failure, live_failure};
 ghost use Rattle.cv_manager.specs.Journal.{EnforcesOne};
 ghost use Rattle.cv_score.specs.Charged.{HasRepair, is_that};
 
@@ -16,13 +16,6 @@ pub(crate) fn live_failure(entry: &Entry) -> Option<FailureId>
         (Mode::Live, End::Failure { id, .. }) => Some(id),
         _ => None,
     }
-}
-
-/// Whether an entry is of a run that is learned from.
-pub(crate) fn is_observed(entry: &Entry) -> bool
-    ensures { result ≡ is_observed entry.now }
-{
-    matches!((entry.mode, entry.end), (Mode::Learn, End::Exit { .. }))
 }
 
 /// Whether a failure is this one: of the same kind, at the same pc.

@@ -14,7 +14,7 @@ ghost use Rattle.cv_manager.specs.Progress.{StandFrom, no_progress};
 ghost use Rattle.cv_manager.specs.Tables.{IsCase, opened_list};
 
 use crate::journal::Journal;
-use crate::judging::{is_failure, is_observed, live_failure};
+use crate::judging::{is_failure, live_failure};
 use crate::posting::Posting;
 use crate::progress::{Progress, progress_with};
 use crate::tables::{changes_with, same_table, table_of};
@@ -22,6 +22,7 @@ use crate::{MOST_CASES, MOST_VERSIONS};
 use cv_base::{Case, Change, Entry, FailureId, Image, NoMemory, PatchTable, Plan};
 use cv_blocks::TextMap;
 use cv_case::open_case;
+use cv_histories::is_observed;
 use cv_observe::Summary;
 use std::alloc::Global;
 use std::sync::Arc;

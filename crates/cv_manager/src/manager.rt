@@ -69,8 +69,8 @@ impl Manager {
 
     /// Posts an entry: the number of the version that it adds, `None` where the table is that of the
     /// last version. Fewer entries than the plan has runs were posted, the entry's sites are points,
-    /// and `summary` is of the plan's text and, for a learn run, of that run. Where memory is refused
-    /// the entry comes back, and all is as it was.
+    /// and `summary` is of the plan's text and, where the run is learned from, of that run. Where
+    /// memory is refused the entry comes back, and all is as it was.
     pub fn post(
         &mut self,
         alloc: Global,

@@ -32,10 +32,10 @@ pub fn report(alloc: Global, manager: &Manager) -> Result<String, NoMemory>
 
 /// The line that names the format, and the plan's.
 fn first_lines(alloc: Global, plan: &Plan) -> Result<String, NoMemory>
-    ensures { IfOk result (λ s. string_bytes s ≡ line (codes "clearview report 1") ++ line (job_line plan.now)) }
+    ensures { IfOk result (λ s. string_bytes s ≡ line (codes "clearview report 2") ++ line (job_line plan.now)) }
 {
     let job = job_line(alloc, plan)?;
-    Ok(format!(in alloc; "clearview report 1\n{job}\n")?)
+    Ok(format!(in alloc; "clearview report 2\n{job}\n")?)
 }
 
 /// The line with the number of learned invariants, and the last one.

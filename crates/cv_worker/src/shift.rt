@@ -1,12 +1,12 @@
 //! What a run of an office goes through: it is run in an arena, and posted.
-ghost use Rattle.std.specs.Prelude.{◌≡◌, [], false, true, None, Some, IfOk, OnOk};
+ghost use Rattle.std.specs.Prelude.{◌≡◌, [], true, None, Some, IfOk, OnOk};
 ghost use Rattle.cv_blocks.specs.TextMap.{text_only};
 ghost use Rattle.cv_desk.specs.Passes.{HasPosted, HasTicket, IsOutcome, kept_of};
 ghost use Rattle.cv_exec.specs.LearnRun.{IsLearnRun};
 ghost use Rattle.cv_exec.specs.LiveRun.{IsLiveRun};
 ghost use Rattle.cv_histories.specs.Honest.{IsHonest};
 ghost use Rattle.cv_histories.specs.Runs.{run_at};
-ghost use Rattle.cv_histories.specs.Seen.{is_live, observed_of};
+ghost use Rattle.cv_histories.specs.Seen.{is_observed, observed_of};
 ghost use Rattle.cv_observe.specs.StandsFor.{StandsFor};
 ghost use Rattle.cv_worker.specs.Instances.{HasPostedRun, IsSame};
 ghost use Rattle.cv_worker.specs.Running.{MayRun};
@@ -71,14 +71,14 @@ impl<'a, N: Named, R: Wait, G: Gate> Shift<'a, N, R, G> {
         Taken { pass, posted }
     }
 
-    /// Runs the run of a ticket. After a learn run the arena's summary is of that run.
+    /// Runs the run of a ticket. Where it is learned from, the arena's summary is of it.
     fn run(&self, arena: &mut Arena, pass: Pass<N>, ticket: &Ticket) -> Ran<N>
         requires arena { arena.old.plan ≡ self.now.plan.now }
         requires ticket { MayRun self.now.plan.now self.now.round pass ticket.now }
         ensures kept { kept_of result.pass ≡ kept_of pass }
         ensures outcome { IfOk result.outcome (λ r. IsOutcome result.pass ticket.now r) }
         ensures of_plan { IfOk result.outcome (λ r. r.plan ≡ self.now.plan.now) }
-        ensures seen { IfOk result.outcome (λ r. is_live r.entry.mode ≡ false → StandsFor arena.new.summary (observed_of self.now.plan.now (run_at self.now.plan.now r.entry.run))) }
+        ensures seen { IfOk result.outcome (λ r. is_observed r.entry ≡ true → StandsFor arena.new.summary (observed_of self.now.plan.now (run_at self.now.plan.now r.entry.run))) }
         ensures plan { arena.new.plan ≡ arena.old.plan }
     {
         match mode_of(self.plan, ticket.run()) {
@@ -111,7 +111,7 @@ impl<'a, N: Named, R: Wait, G: Gate> Shift<'a, N, R, G> {
         ensures kept { kept_of result.pass ≡ kept_of pass }
         ensures outcome { IfOk result.outcome (λ r. IsOutcome result.pass ticket.now r) }
         ensures of_plan { IfOk result.outcome (λ r. r.plan ≡ self.now.plan.now) }
-        ensures live { IfOk result.outcome (λ r. is_live r.entry.mode ≡ true) }
+        ensures seen { IfOk result.outcome (λ r. is_observed r.entry ≡ true → StandsFor arena.new.summary (observed_of self.now.plan.now (run_at self.now.plan.now r.entry.run))) }
         ensures plan { arena.new.plan ≡ arena.old.plan }
     {
         let worker = pass.worker();
@@ -148,7 +148,7 @@ impl<'a, N: Named, R: Wait, G: Gate> Shift<'a, N, R, G> {
         requires ticket { HasTicket pass.old ticket }
         requires outcome { IsOutcome pass.old ticket outcome }
         requires text { summary.now.text ≡ text_only outcome.plan.image }
-        requires seen { is_live outcome.entry.mode ≡ false → StandsFor summary.now (observed_of outcome.plan (run_at outcome.plan outcome.entry.run)) }
+        requires seen { is_observed outcome.entry ≡ true → StandsFor summary.now (observed_of outcome.plan (run_at outcome.plan outcome.entry.run)) }
         ensures posted { OnOk result (HasPosted ticket.draw pass.old pass.new) }
         ensures honest { OnOk result (IsHonest outcome.plan pass.new.known.versions outcome.entry) }
         ensures same { IsSame pass.old pass.new }

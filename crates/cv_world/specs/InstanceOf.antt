@@ -4,7 +4,7 @@ use Rattle.cv_base.specs.PlanOf.{PlanOf}
 use Rattle.cv_exec.specs.ArenaOf.{ArenaOf, Going, entry_of_going, is_over, wants}
 use Rattle.cv_exec.specs.RecordOf.{RecordOf}
 use Rattle.cv_histories.specs.Runs.{run_at}
-use Rattle.cv_histories.specs.Seen.{is_live, observed_of}
+use Rattle.cv_histories.specs.Seen.{is_observed, observed_of}
 use Rattle.cv_observe.specs.StandsFor.{StandsFor, SummaryOf}
 
 pub record InstanceOf : Type 0 where
@@ -19,11 +19,11 @@ abbrev pub going_in : Option RecordOf → Option Going → Option Going
 going_in None going = going
 going_in (Some r) going = Some (going_of r)
 
--- the record is that of its run, which has ended, and the summary is of the run
+-- the record is that of its run, which has ended, and the summary is of it where it is learned from
 pub record IsFinished (plan : PlanOf) (summary : SummaryOf) (r : RecordOf) : Type 0 where
   pub over : is_over plan (Some (going_of r)) ≡ true
   pub entry : entry_of_going plan (Some (going_of r)) ≡ Some r.entry
-  pub observed : is_live r.entry.mode ≡ false → StandsFor summary (observed_of plan (run_at plan r.entry.run))
+  pub observed : is_observed r.entry ≡ true → StandsFor summary (observed_of plan (run_at plan r.entry.run))
 
 -- a record is kept only where no run goes on in the arena
 pub record IsKept (arena : ArenaOf) (kept : Option RecordOf) : Type 0 where

@@ -1,4 +1,4 @@
-use Rattle.clearview.proofs.Against.{no_plan_of_words}
+use Rattle.clearview.proofs.Against.{no_plan_of_words, none_judged_of_words}
 use Rattle.clearview.proofs.tool.tool.Goals as goal
 
 -- src/tool.rt
@@ -7,7 +7,9 @@ returns-clause-comes g c = record {
   posted = tt;
   report = tt;
   plan = no_plan_of_words c.args.words.now (g.S.Store.told c.args.store.now);
-  book = (λ some. absurd cc, λ both. let yes = both.0 in let none = c.requires in absurd cc);
+  book = (λ some. absurd cc, λ both. let yes = both.0 in let none = c.requires.book in absurd cc);
+  judged = none_judged_of_words c.args.words.now (g.S.Store.told c.args.store.now);
+  found_is = (λ some. absurd cc, λ both. let yes = both.0 in let none = c.requires.report in absurd cc);
   usage = c.carried_out-cause.ensures.usage;
   reads = c.carried_out-cause.ensures.reads;
   ends = c.carried_out-cause.ensures.ends;

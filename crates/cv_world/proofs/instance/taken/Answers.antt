@@ -9,4 +9,4 @@ returns-in-None-clause-finished c =
     let arena = c.args.arena.now in
     finished_by c.finish.result arena c.finish.new.self
     (subst (λ k. is_over arena.plan (going_in k arena.going) ≡ true) (sym c.take.ensures.value ∙ c.in-None.is) c.requires.over)
-    c.finish.ensures.entry c.finish.ensures.going c.finish.ensures.observed c.finish.ensures.left
+    c.finish.ensures.entry c.finish.ensures.going c.finish.ensures.observed c.finish.ensures.kept

@@ -18,10 +18,20 @@ returns-clause-rows c =
     let known_here = known c.flown_is_honest.ensures c.flown_is_plain.ensures c.rows_are_joined.ensures c.self.inside.plan c.self.inside.machine c.self.inside.summary c.self.inside.flying c.in-Some.started c.in-Some.end c.in_ok-told.told c.self.invariant.run (sym c.ending.ensures ∙ c.in-Some.is) c.in_ok-told.ensures in
     rw (← c.self.view_is) (IfOk-weaker c.entry_of.result _ _ (λ e is. rw is known_here.rows) c.entry_of.ensures)
 
-pub returns-clause-observed : goal.returns-clause-observed
-returns-clause-observed c =
+pub returns-clause-learned : goal.returns-clause-learned
+returns-clause-learned c =
     let known_here = known c.flown_is_honest.ensures c.flown_is_plain.ensures c.rows_are_joined.ensures c.self.inside.plan c.self.inside.machine c.self.inside.summary c.self.inside.flying c.in-Some.started c.in-Some.end c.in_ok-told.told c.self.invariant.run (sym c.ending.ensures ∙ c.in-Some.is) c.in_ok-told.ensures in
-    rw (← c.self.view_is) (IfOk-weaker c.entry_of.result _ _ (λ e is. rw is known_here.observed) c.entry_of.ensures)
+    rw (← c.self.view_is) (IfOk-weaker c.entry_of.result _ _ (λ e is. rw is known_here.learned) c.entry_of.ensures)
+
+pub returns-clause-unseen : goal.returns-clause-unseen
+returns-clause-unseen c =
+    let known_here = known c.flown_is_honest.ensures c.flown_is_plain.ensures c.rows_are_joined.ensures c.self.inside.plan c.self.inside.machine c.self.inside.summary c.self.inside.flying c.in-Some.started c.in-Some.end c.in_ok-told.told c.self.invariant.run (sym c.ending.ensures ∙ c.in-Some.is) c.in_ok-told.ensures in
+    rw (← c.self.view_is) (IfOk-weaker c.entry_of.result _ _ (λ e is. rw is known_here.unseen) c.entry_of.ensures)
+
+pub returns-clause-run : goal.returns-clause-run
+returns-clause-run c =
+    let known_here = known c.flown_is_honest.ensures c.flown_is_plain.ensures c.rows_are_joined.ensures c.self.inside.plan c.self.inside.machine c.self.inside.summary c.self.inside.flying c.in-Some.started c.in-Some.end c.in_ok-told.told c.self.invariant.run (sym c.ending.ensures ∙ c.in-Some.is) c.in_ok-told.ensures in
+    rw (← c.self.view_is) (IfOk-weaker c.entry_of.result _ _ (λ e is. rw is known_here.there) c.entry_of.ensures)
 
 pub returns-clause-going : goal.returns-clause-going
 returns-clause-going c =

@@ -1,8 +1,10 @@
-use Rattle.std.proofs.Common.{◌≡◌, ◌∙◌, true, [], Some, ap, subst, sym}
-use Rattle.std.proofs.lemmas.Result.{IfOk-weaker, on_ok_weaker}
-use Rattle.cv_exec.specs.ArenaOf.{entry_of_going, is_over, seen_so_far, wants}
+use Rattle.std.proofs.Common.{◌≡◌, ◌∙◌, true, [], Some, ap, sym}
+use Rattle.std.specs.Prelude.{IfOk}
+use Rattle.std.proofs.lemmas.Result.{IfOk-weaker}
+use Rattle.cv_exec.specs.ArenaOf.{entry_of_going, is_over}
 use Rattle.cv_exec.specs.ArenaStands.{turns_in}
-use Rattle.cv_observe.specs.StandsFor.{StandsFor}
+use Rattle.cv_exec.specs.LearnRun.{entry_by}
+use Rattle.cv_exec.specs.RecordOf.{RecordOf}
 use Rattle.cv_exec.proofs.Numbered.{learn_entry_by, learn_seen_by, learn_waits}
 use Rattle.cv_exec.proofs.arena.Arena.learn.Goals as goal
 
@@ -11,8 +13,8 @@ step-requires-clause-entered c =
     let going = c.loop-over.invariant.going in
     rw (going, c.loop-over.invariant.plan) (learn_waits c.flown_is_of.ensures c.args.plan.now c.args.run c.args.worker (turns_in c.loop-over.self.going) c.requires.learns)
 
-pub returns-clause-entry : goal.returns-clause-entry
-returns-clause-entry c =
+ran : (c : goal.After-finish) → IfOk c.finish.result (λ (r : RecordOf). entry_by c.args.plan.now c.args.run c.args.worker ≡ Some r.entry)
+ran c =
     let going = c.loop-over.invariant.going in
     let over : is_over c.args.plan.now (Some (record { run = c.args.run; worker = c.args.worker; turns = turns_in c.loop-over.self.going; adopted = [] })) ≡ true =
     ap (is_over c.args.plan.now) (sym going) ∙ ap (λ p. is_over p c.loop-over.self.going) (sym c.loop-over.invariant.plan) ∙ sym c.loop-over.invariant.over ∙ c.loop-over-test.false in
@@ -22,13 +24,9 @@ returns-clause-entry c =
     (ap (entry_of_going c.args.plan.now) (sym going) ∙ ap (λ p. entry_of_going p c.loop-over.self.going) (sym c.loop-over.invariant.plan) ∙ is))
     c.finish.ensures.entry
 
+pub returns-clause-entry : goal.returns-clause-entry
+returns-clause-entry c = ran c
+
 pub returns-clause-seen : goal.returns-clause-seen
 returns-clause-seen c =
-    let going = c.loop-over.invariant.going in
-    let over : is_over c.args.plan.now (Some (record { run = c.args.run; worker = c.args.worker; turns = turns_in c.loop-over.self.going; adopted = [] })) ≡ true =
-    ap (is_over c.args.plan.now) (sym going) ∙ ap (λ p. is_over p c.loop-over.self.going) (sym c.loop-over.invariant.plan) ∙ sym c.loop-over.invariant.over ∙ c.loop-over-test.false in
-    on_ok_weaker c.finish.result
-    (λ seen.
-    learn_seen_by c.flown_is_of.ensures c.flown_is_plain.ensures c.args.plan.now c.finish.new.self.summary c.args.run c.args.worker (turns_in c.loop-over.self.going) c.requires.learns over
-    (subst (StandsFor c.finish.new.self.summary) (ap (λ p. seen_so_far p c.loop-over.self.going) c.loop-over.invariant.plan ∙ ap (seen_so_far c.args.plan.now) going) seen))
-    c.finish.ensures.seen
+    learn_seen_by c.finish.result c.args.plan.now c.args.run c.args.worker c.finish.new.self.summary (ran c) (rw (← c.loop-over.invariant.plan) c.finish.ensures.learned)

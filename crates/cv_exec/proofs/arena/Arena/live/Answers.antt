@@ -10,6 +10,7 @@ use Rattle.cv_exec.proofs.Passing.{onward}
 use Rattle.cv_histories.specs.Honest.{IsHonest}
 use Rattle.cv_histories.specs.Legal.{NeverFalls}
 use Rattle.cv_histories.specs.Rows.{written}
+use Rattle.cv_histories.specs.Seen.{is_live}
 use Rattle.cv_exec.proofs.arena.Arena.live.Goals as goal
 
 pub returns-clause-unfired : goal.returns-clause-unfired
@@ -34,6 +35,13 @@ returns-clause-live g c =
     let entry = ap (entry_of_going c.args.plan.now) (sym going) ∙ ap (λ p. entry_of_going p c.loop-over.self.going) (sym c.loop-over.invariant.plan) ∙ c.in_ok-record.ensures.entry in
     let of = live_of c.flown_is_of.ensures c.args.plan.now c.args.run c.args.worker (turns_in c.loop-over.self.going) (adopted_in c.loop-over.self.going) c.in_ok-record.record.entry c.requires.lives entry in
     of.mode
+
+pub returns-clause-unseen : goal.returns-clause-unseen
+returns-clause-unseen g c =
+    let going = c.loop-over.invariant.going in
+    let entry = ap (entry_of_going c.args.plan.now) (sym going) ∙ ap (λ p. entry_of_going p c.loop-over.self.going) (sym c.loop-over.invariant.plan) ∙ c.in_ok-record.ensures.entry in
+    let of = live_of c.flown_is_of.ensures c.args.plan.now c.args.run c.args.worker (turns_in c.loop-over.self.going) (adopted_in c.loop-over.self.going) c.in_ok-record.record.entry c.requires.lives entry in
+    c.in_ok-record.ensures.unseen (ap is_live of.mode)
 
 pub loop-over-preserved : goal.loop-over-preserved
 loop-over-preserved g c =
