@@ -1,0 +1,3 @@
+mod Ends
+mod InFlight
+mod Steps
