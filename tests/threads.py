@@ -197,13 +197,13 @@ def beside(results):
 
 
 def first_case(name):
-    """Of a stored job: the learn runs before its first case, several times over, and then the run that opened it;
-    and the invariants that are its candidates."""
+    """Of a stored job: the runs before its first case that are learned from, several times over as learn runs, and
+    then the run that opened it; and the invariants that are its candidates."""
     job, report = json.loads(content(JOBS, name, 'job.json')), read(content(JOBS, name, 'report.txt').decode())
     case = report.cases[0]
     runs = [(place, each['mode'], data) for place, each in enumerate(job['rounds']) for data in each['inputs']]
-    last, _, failing = runs[report.entries[case.opened].run]
-    learn = [data for place, mode, data in runs if mode == 'learn' and place < last]
+    _, _, failing = runs[report.entries[case.opened].run]
+    learn = [runs[entry.run][2] for entry in report.entries[:case.opened] if entry.end.sort == 'exit']
     rounds = [('learn', learn * 3), ('learn', learn[::-1] * 2)] if learn else []
     shape = Shape(name, content(JOBS, name, 'image.bin'), rounds + [('live', [failing])], checks=job['checks'], budget=job['budget'])
     return shape, [candidate.invariant for candidate in case.candidates]
