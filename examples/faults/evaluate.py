@@ -4,7 +4,7 @@ programs of this folder, from its own reports; the numbers of docs/EVALUATION.md
 
 For each program, level of optimisation and set of learn inputs (few: the first 2; many: all 12; at -O1 also
 the first 1, 4 and 8) one job is run: a learn round; a live round with the failing inputs; one with the good
-inputs, none of which is learned from; one with the failing inputs again. What a run should print is what
+inputs, none of which is in the learn round; one with the failing inputs again. What a run should print is what
 the program built with -DFIXED prints.
 
 Without an option the rows are printed. `--write` puts them into the page, `--check` says whether the page
