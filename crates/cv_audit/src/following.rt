@@ -33,7 +33,7 @@ pub(crate) fn is_own_run(plan: &Plan, history: &[Entry], entry: &Entry) -> bool
 }
 
 /// The round of a run, counted from 0; 0 where the plan has no such run.
-fn round_of(plan: &Plan, run: u32) -> u32
+pub fn round_of(plan: &Plan, run: u32) -> u32
     ensures { result ≡ round_in (run_at plan.now run) }
 {
     let mut left = run as usize;

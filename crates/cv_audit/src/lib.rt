@@ -11,5 +11,6 @@ mod same;
 mod scripted;
 mod verdict;
 
+pub use following::round_of;
 pub use laws::{one_honest_entry, tests_are_following};
-pub use verdict::{Rebuilt, Verdict, audit, rebuild};
+pub use verdict::{Rebuilt, Verdict, audit, missing, rebuild};

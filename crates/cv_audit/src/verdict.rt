@@ -205,7 +205,7 @@ fn whole(book: Book) -> Verdict
 }
 
 /// The least run of the plan that has no entry.
-fn missing(book: &Book) -> Option<u32>
+pub fn missing(book: &Book) -> Option<u32>
     ensures { MatchOption result (IsWhole book.now.plan book.now.past) (IsLeast book.now.plan book.now.past) }
 {
     let history = book.manager().history();

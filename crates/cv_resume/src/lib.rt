@@ -1,7 +1,17 @@
-//! What kept pieces hold: the entries of finished rounds, read line by line
-//! (docs/FORMATS.md, "Kept rounds").
+//! Going on from kept rounds: what kept pieces hold, the book that they come to, and the rounds
+//! behind it, each kept before the next begins (docs/FORMATS.md, "Kept rounds").
 #![tactic(auto)]
 
+mod counting;
+mod faults;
+mod going_on;
+mod laws;
 mod reading;
+mod restoring;
+mod writing;
 
+pub use faults::{KeptFault, RestoreFail};
+pub use going_on::{Resumed, resume};
+pub use laws::{answers_are_one, rounds_join};
 pub use reading::entries_of;
+pub use restoring::{Restored, restore};
