@@ -11,6 +11,7 @@ import os
 import random
 import re
 import sys
+import tempfile
 from concurrent.futures import ThreadPoolExecutor
 
 from program import built, ends, run
@@ -130,10 +131,9 @@ def main():
         for (what, _, report, passes), answer in zip(cases, answers):
             if not passes(answer):
                 failed += 1
-                kept = f'/tmp/audits-{failed}.txt'
-                with open(kept, 'w', encoding='latin-1') as file:
-                    file.write(report)
-                print(f'{what}: {answer}; the report is {kept}')
+                with tempfile.NamedTemporaryFile('w', prefix='audits-', suffix='.txt', delete=False, encoding='latin-1') as kept:
+                    kept.write(report)
+                print(f'{what}: {answer}; the report is {kept.name}')
     ends(len(cases), failed)
 
 
