@@ -32,9 +32,10 @@ pub enum Resumed {
 /// the earlier rounds and no others, and keeps the entry lines of each as one piece before the next
 /// round begins (docs/FORMATS.md, "Kept rounds").
 ///
-/// A crash at any moment of the call, whatever it answers, leaves the pieces from before it and those
-/// of the first of its rounds, all of one legal history. The disk has to be as the last `recover` or
-/// `keep` left it, which was Ok; after a failure it has to be recovered again, and the book is gone.
+/// A crash at any moment of the call, whatever it answers, leaves the pieces from before it and
+/// those of the first of its rounds, all of one legal history. The disk has to be as the last
+/// `recover` or `keep` left it, which was Ok; after a failure it has to be recovered again, and the
+/// book is gone.
 pub fn resume<R: Threads + Wait + Sync, G: Gate, D: Disk>(
     rt: &R,
     alloc: Global,

@@ -11,8 +11,8 @@ pub fn answers_are_one()
     tests_are_following();
 }
 
-/// A law of the definitions: the pieces of rounds, joined, are the entry lines by which a history has
-/// grown.
+/// A law of the definitions: the pieces of rounds, joined, are the entry lines by which a history
+/// has grown.
 pub fn rounds_join()
     ensures { RoundsJoin }
 {}

@@ -8,6 +8,8 @@ mod going_on;
 mod laws;
 mod reading;
 mod restoring;
+#[cfg(test)]
+mod tests;
 mod writing;
 
 pub use faults::{KeptFault, RestoreFail};
