@@ -19,7 +19,7 @@ def refusal(text):
 class Reading(unittest.TestCase):
     def test_fields(self):
         report = read(WHOLE)
-        self.assertEqual(report.form, 1)
+        self.assertEqual(report.form, 2)
         self.assertEqual(tuple(report.job), (1, 2, 1000, 2, 6))
         entry = report.entries[3]
         self.assertEqual((entry.run, entry.worker, entry.mode, entry.adopted), (3, 0, 'live', [(1, 2)]))
@@ -43,15 +43,15 @@ class Reading(unittest.TestCase):
             self.assertEqual((report.form, len(report.cases)), (form, cases), name)
 
     def test_no_cases(self):
-        report = read('clearview report 2\njob workers 1 checks 2 budget 9 rounds 1 runs 1\n'
+        report = read('clearview report 1\njob workers 1 checks 2 budget 9 rounds 1 runs 1\n'
                       'entry 0 run 0 worker 0 mode live adopted 0:1 end budget turns 9 sites - output 6869 tally - '
                       'fired -\nversion 0 entry - patches 0\nlearned 0\nend\n')
-        self.assertEqual((report.cases, report.entries[0].output), ([], b'hi'))
+        self.assertEqual((report.form, report.cases, report.entries[0].output), (1, [], b'hi'))
 
     def test_broken_lines(self):
         # what is changed, into what, the line that is named, and a part of the cause
         for old, new, line, why in (
-                ('report 1', 'report 3', 1, 'first line'),
+                ('report 2', 'report 3', 1, 'first line'),
                 ('checks 2', 'checks two', 2, "checks: 'two' is no number"),
                 ('entry 1 run 1', 'entry 2 run 1', 4, 'entry 2 stands where entry 1 should'),
                 ('run 5 worker 0', 'run 6 worker 0', 8, 'run: 6 is past the last one, 5'),
