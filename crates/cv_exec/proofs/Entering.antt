@@ -7,7 +7,7 @@ use Rattle.cv_base.specs.declared.ends.End.{End}
 use Rattle.cv_base.specs.declared.memory.NoMemory.{NoMemory}
 use Rattle.cv_base.specs.PlanOf.{PlanOf}
 use Rattle.cv_exec.specs.ArenaOf.{flight_in, is_over, wants}
-use Rattle.cv_exec.specs.ArenaStands.{GoesOn, IsStarted, Keeps, Leaves, Marks, StandsBy, going_with}
+use Rattle.cv_exec.specs.InFlightStands.{GoesOn, IsStarted, Keeps, Leaves, Marks, StandsBy, going_with}
 use Rattle.cv_exec.specs.declared.flying.Flying.TheVariants.{Living}
 use Rattle.cv_exec.specs.declared.flying.Started.{Started}
 use Rattle.cv_exec.specs.declared.patched.Patched.{Patched}
@@ -20,7 +20,6 @@ use Rattle.cv_exec.proofs.Turned.{going}
 use Rattle.cv_histories.specs.Flight.{begun, done_in, entered, flown, may_enter}
 use Rattle.cv_histories.specs.Rows.{checks_in, firings_in, written}
 use Rattle.cv_machine.specs.Held.{Held}
-use Rattle.cv_observe.specs.StandsFor.{SummaryOf}
 use Rattle.cv_runs.specs.BlockEntries.{since_next}
 use Rattle.cv_runs.specs.PatchedRun.{PatchedStep, Table, notes_of}
 
@@ -46,15 +45,15 @@ few_inside : (inside : Bool) (n k : ℕ) → inside ≡ false → n ≤ k + (if 
 few_inside true n k open_is few = cc
 few_inside false n k open_is few = omega arith
 
-module _ (plan : PlanOf) (m : Held) (summary : SummaryOf) (g : Started) (p : Patched) (r : IsStarted plan m summary (Some p) p.spans.items g) (wanting : wants plan (Some (going_with g p.spans.items)) ≡ true) where
+module _ (plan : PlanOf) (m : Held) (g : Started) (p : Patched) (r : IsStarted plan m (Some p) p.spans.items g) (wanting : wants plan (Some (going_with g p.spans.items)) ≡ true) where
   parts : (g.end ≡ None) × (wants_by p ≡ true)
-  parts = wanted g.end (wants_by p) (sym (wants_entry_in plan m summary (Living g p) r) ∙ wanting)
+  parts = wanted g.end (wants_by p) (sym (wants_entry_in plan m (Living g p) r) ∙ wanting)
 
   goes : GoesOn plan m r.flight
   goes = subst (StandsBy plan m r.flight) parts.0 r.stands
 
   keeps : Keeps plan r.flight p None
-  keeps = subst (Keeps plan r.flight p) parts.0 r.keeps.0
+  keeps = subst (Keeps plan r.flight p) parts.0 r.keeps
 
   may_enter_now : may_enter plan r.flight ≡ true
   may_enter_now = live_entry_is plan r.flight p keeps.lives goes.on keeps.marks ∙ parts.1
@@ -96,7 +95,7 @@ module _ (plan : PlanOf) (m : Held) (summary : SummaryOf) (g : Started) (p : Pat
     adoptions_are : IsEntered version table p q → adoptions_of q.spans.items ≡ adoptions_of p.spans.items ++ record { version = version; table = table } ∷ []
     adoptions_are e = ap adoptions_of e.spans ∙ adoptions_more version table p.spans.items may
 
-    abbrev after_entry : IsEntered version table p q → IsStarted plan m summary (Some q) q.spans.items g
+    abbrev after_entry : IsEntered version table p q → IsStarted plan m (Some q) q.spans.items g
     after_entry e =
         let keeps_now : Keeps plan (entered version table r.flight) q None = record {
           lives = keeps.lives;
@@ -123,12 +122,12 @@ module _ (plan : PlanOf) (m : Held) (summary : SummaryOf) (g : Started) (p : Pat
           turns = r.turns;
           leaves = leaves_entered;
           stands = subst (StandsBy plan m (entered version table r.flight)) (sym parts.0) goes_now;
-          keeps = (subst (Keeps plan (entered version table r.flight) q) (sym parts.0) keeps_now, r.keeps.1);
+          keeps = subst (Keeps plan (entered version table r.flight) q) (sym parts.0) keeps_now;
         }
 
     -- ---- refused memory
 
-    after_refusal : IsRefused p q → IsStarted plan m summary (Some q) q.spans.items g
+    after_refusal : IsRefused p q → IsStarted plan m (Some q) q.spans.items g
     after_refusal e =
         let still_wants : wants_by q ≡ true = ap (λ (b : Bool). b && not q.entered) e.enters ∙ ap (λ (b : Bool). p.enters && not b) e.entered ∙ parts.1 in
         let marks : Marks r.flight q = record {
@@ -166,32 +165,32 @@ module _ (plan : PlanOf) (m : Held) (summary : SummaryOf) (g : Started) (p : Pat
           turns = r.turns;
           leaves = r.leaves;
           stands = r.stands;
-          keeps = (subst (Keeps plan r.flight q) (sym parts.0) keeps_now, r.keeps.1);
+          keeps = subst (Keeps plan r.flight q) (sym parts.0) keeps_now;
         }
 
     -- ---- whether the entry was made, or refused memory
 
-    pub stands_after : (result : Result (Unit {0}) NoMemory) → OnOk result (IsEntered version table p q) → OnErr result (IsRefused p q) → IsStarted plan m summary (Some q) q.spans.items g
+    pub stands_after : (result : Result (Unit {0}) NoMemory) → OnOk result (IsEntered version table p q) → OnErr result (IsRefused p q) → IsStarted plan m (Some q) q.spans.items g
     stands_after (Ok done) ok err = after_entry ok
     stands_after (Err e) ok err = after_refusal err
 
     flight_by : IsEntered version table p q → flight_in plan (Some (going_with g q.spans.items)) ≡ option_map (entered version table) (flight_in plan (Some (going_with g p.spans.items)))
     flight_by e =
-        flight_is plan m summary (Some q) q.spans.items g (after_entry e)
-        ∙ sym (ap (option_map (entered version table)) (flight_is plan m summary (Some p) p.spans.items g r))
+        flight_is plan m (Some q) q.spans.items g (after_entry e)
+        ∙ sym (ap (option_map (entered version table)) (flight_is plan m (Some p) p.spans.items g r))
 
     pub flight_entered : (result : Result (Unit {0}) NoMemory) → OnOk result (IsEntered version table p q) → OnOk result (flight_in plan (Some (going_with g q.spans.items)) ≡ option_map (entered version table) (flight_in plan (Some (going_with g p.spans.items))))
     flight_entered result ok = on_ok_weaker result flight_by ok
 
     goes_by : IsEntered version table p q → is_over plan (Some (going_with g q.spans.items)) ≡ false
-    goes_by e = over plan m summary (Some q) q.spans.items g (after_entry e) ∙ ap is_some parts.0
+    goes_by e = over plan m (Some q) q.spans.items g (after_entry e) ∙ ap is_some parts.0
 
     pub goes_entered : (result : Result (Unit {0}) NoMemory) → OnOk result (IsEntered version table p q) → OnOk result (is_over plan (Some (going_with g q.spans.items)) ≡ false)
     goes_entered result ok = on_ok_weaker result goes_by ok
 
     closed_by : IsEntered version table p q → wants plan (Some (going_with g q.spans.items)) ≡ false
     closed_by e =
-        wants_entry_in plan m summary (Living g q) (after_entry e)
+        wants_entry_in plan m (Living g q) (after_entry e)
         ∙ ap (λ (end : Option End). not (is_some end) && wants_by q) parts.0
         ∙ ap (λ (b : Bool). q.enters && not b) e.entered
         ∙ and_false q.enters
@@ -202,7 +201,7 @@ module _ (plan : PlanOf) (m : Held) (summary : SummaryOf) (g : Started) (p : Pat
   -- ---- the version that was adopted last, once more
 
   module _ (version : ℕ) (q : Patched) where
-    pub stands_again : (answer : Bool) → (answer ≡ true → is_of_version version (last_span p.spans.items) ≡ true) → (answer ≡ true → IsEntered version (last_table p.spans.items) p q) → (answer ≡ false → q ≡ p) → IsStarted plan m summary (Some q) q.spans.items g
+    pub stands_again : (answer : Bool) → (answer ≡ true → is_of_version version (last_span p.spans.items) ≡ true) → (answer ≡ true → IsEntered version (last_table p.spans.items) p q) → (answer ≡ false → q ≡ p) → IsStarted plan m (Some q) q.spans.items g
     stands_again true known entry same = after_entry version (last_table p.spans.items) (may_again version p.spans.items (known refl)) q (entry refl)
     stands_again false known entry same = rw (same refl) r
 

@@ -1,6 +1,7 @@
 pub mod Adopting
 pub mod Answered
 pub mod Beginning
+pub mod Copied
 pub mod Ended
 pub mod Entering
 pub mod Following
@@ -12,5 +13,6 @@ pub mod Passing
 pub mod Patching
 pub mod Planned
 pub mod Recipe
+pub mod Seeing
 pub mod Standing
 pub mod Turned

@@ -1,16 +1,14 @@
 -- A started run through one more turn.
-use Rattle.std.proofs.Common.{◌≡◌, ◌≤◌, ◌<◌, ◌+◌, ◌-◌, ℕ, suc, Bool, true, false, List, [], ◌∷◌, ◌++◌, length, Option, Some, None, refl, sym, ap, ◌∙◌, subst, arith}
+use Rattle.std.proofs.Common.{◌≡◌, ◌≤◌, ◌<◌, ◌+◌, ◌-◌, ℕ, suc, Bool, true, false, List, [], length, Option, Some, None, refl, sym, ap, ◌∙◌, subst, arith}
 use Rattle.std.specs.Prelude.{if◌then◌else◌, option_map}
-use Rattle.std.proofs.lemmas.List.{map-append}
 use Rattle.cv_base.specs.declared.ends.End.{End}
-use Rattle.cv_base.specs.declared.entries.Observation.{Observation}
 use Rattle.cv_base.specs.declared.plan.Mode.{Mode}
 use Rattle.cv_base.specs.Picture.{Picture, is_point}
 use Rattle.cv_base.specs.PlanOf.{PlanOf}
 use Rattle.cv_exec.specs.declared.flying.Started.{Started}
 use Rattle.cv_exec.specs.declared.patched.Patched.{Patched}
 use Rattle.cv_exec.specs.ArenaOf.{flight_in}
-use Rattle.cv_exec.specs.ArenaStands.{GoesOn, IsStarted, Keeps, KeepsBy, Marks, MarksBy, StandsBy, going_with}
+use Rattle.cv_exec.specs.InFlightStands.{GoesOn, IsStarted, Keeps, KeepsBy, Marks, MarksBy, StandsBy, going_with}
 use Rattle.cv_exec.specs.Keeping.{EntersAfter, IsNoted, IsReady, MayTurn, indexed_table, is_transfer_in, last_table, patched_state, range_of, turned_state, wants_by}
 use Rattle.cv_exec.specs.LiveRun.{Span, adoptions_of}
 use Rattle.cv_exec.specs.RunEnds.{end_sites, end_with}
@@ -18,17 +16,14 @@ use Rattle.cv_exec.proofs.Notes.{kept_on, up_to_more}
 use Rattle.cv_exec.proofs.Patching.{end_sites_kept}
 use Rattle.cv_exec.proofs.Recipe.{turn_more, turns}
 use Rattle.cv_exec.proofs.Standing.{flight_is, learn_no_entry, live_entry_is}
-use Rattle.cv_exec.proofs.Turned.{done_more, going, leaves_after, stands_after, steps_more}
+use Rattle.cv_exec.proofs.Turned.{done_more, going, leaves_after, stands_after}
 use Rattle.cv_histories.specs.Flight.{Flight, begun, done_in, flight_turn, flown, may_turn, turned, turned_by, turned_with}
 use Rattle.cv_histories.specs.Runs.{Run}
 use Rattle.cv_histories.specs.Seen.{is_live}
 use Rattle.cv_machine.specs.Answers.{left_by}
 use Rattle.cv_machine.specs.Held.{Held, state_of}
-use Rattle.cv_observe.specs.StandsFor.{StandsFor, SummaryOf}
 use Rattle.cv_runs.specs.BlockEntries.{is_entry, since_next}
-use Rattle.cv_runs.specs.Learned.{observations, seen_in}
-use Rattle.cv_runs.specs.PatchedRun.{PatchedStep, PatchedTurn, Table, patched_step, patched_turn, steps_of}
-use Rattle.cv_runs.specs.PlainRun.{Step}
+use Rattle.cv_runs.specs.PatchedRun.{PatchedStep, PatchedTurn, Table, patched_step, patched_turn}
 use Rattle.cv_runs.specs.PlainTurn.{turn_of}
 use Rattle.cv_runs.specs.State.{State, Outcome, Next, Ended}
 
@@ -42,7 +37,7 @@ kept_number : (f : Flight) (step : PatchedStep) (o : Outcome) → (turned_by f s
 kept_number f step (Next next transfer) = refl
 kept_number f step (Ended end) = refl
 
-kept_run : (f : Flight) (step : PatchedStep) (o : Outcome) → (turned_by f step o).run ≡ f.run
+pub kept_run : (f : Flight) (step : PatchedStep) (o : Outcome) → (turned_by f step o).run ≡ f.run
 kept_run f step (Next next transfer) = refl
 kept_run f step (Ended end) = refl
 
@@ -59,7 +54,7 @@ one_step f step (Next next transfer) = refl
 one_step f step (Ended end) = refl
 
 -- a started run after a turn that is `turn`
-module _ (plan : PlanOf) (m new : Held) (summary : SummaryOf) (patched : Option Patched) (spans : List Span) (g : Started) (r : IsStarted plan m summary patched spans g) (goes : GoesOn plan m r.flight) (may : may_turn plan r.flight ≡ true) (turn : PatchedTurn) (same : flight_turn plan r.flight ≡ turn) where
+module _ (plan : PlanOf) (m new : Held) (patched : Option Patched) (spans : List Span) (g : Started) (r : IsStarted plan m patched spans g) (goes : GoesOn plan m r.flight) (may : may_turn plan r.flight ≡ true) (turn : PatchedTurn) (same : flight_turn plan r.flight ≡ turn) where
   abbrev pub step : PatchedStep
   step = patched_step r.flight.state (is_entry r.flight.since r.flight.transferred) turn
 
@@ -84,18 +79,18 @@ module _ (plan : PlanOf) (m new : Held) (summary : SummaryOf) (patched : Option 
   on : (r.flight.over ≡ false) × (length r.flight.steps < plan.budget)
   on = going plan r.flight goes.on r.leaves.within
 
-  -- the arena's run is the run in flight after a turn
+  -- the run that is shown is the run in flight after a turn
   pub flight_more : flight_in plan (Some (going_with (after_turn g None) spans)) ≡ option_map (turned plan) (flight_in plan (Some (going_with g spans)))
   flight_more =
       ap (option_map (λ (run : Run). flown plan (adoptions_of spans) (begun plan g.run run) (g.turns + 1))) r.of_plan
       ∙ ap Some (flown_is ∙ sym turned_is)
-      ∙ sym (ap (option_map (turned plan)) (flight_is plan m summary patched spans g r))
+      ∙ sym (ap (option_map (turned plan)) (flight_is plan m patched spans g r))
 
   -- it stands so, where it keeps what it has to
-  pub started_after : (later : SummaryOf) (now : Option Patched) (s : State) (left : ℕ) (end : Option End) → state_of new ≡ left_by turn.outcome s → s.output ≡ r.flight.state.output
+  pub started_after : (now : Option Patched) (s : State) (left : ℕ) (end : Option End) → state_of new ≡ left_by turn.outcome s → s.output ≡ r.flight.state.output
       → ((e : End) → turn.outcome ≡ Ended e → end_sites e r.flight.state.core ≡ end_sites e s.core) → left ≡ plan.budget - g.turns → end ≡ end_with left turn.outcome
-      → KeepsBy plan later next end now → IsStarted plan new later now spans (after_turn g end)
-  started_after later now s left end state output sites all ends keeps =
+      → KeepsBy plan next end now → IsStarted plan new now spans (after_turn g end)
+  started_after now s left end state output sites all ends keeps =
       let one_more : length r.flight.steps + 1 ≡ suc (length r.flight.steps) = omega arith in
       record {
         run = r.run;
@@ -114,41 +109,34 @@ module _ (plan : PlanOf) (m new : Held) (summary : SummaryOf) (patched : Option 
 
 -- ---- a learn run
 
-observed_more : (f : Flight) (step : PatchedStep) (o : Outcome) → observations (steps_of (done_in f)) ++ seen_in step.before ∷ [] ≡ observations (steps_of (done_in (turned_by f step o)))
-observed_more f step o = sym (ap observations (steps_more f step o) ∙ map-append (λ (x : Step). seen_in x.before) (steps_of (done_in f)) (record { before = step.before; outcome = step.outcome } ∷ []))
-
-module _ (plan : PlanOf) (m new : Held) (summary later : SummaryOf) (g : Started) (r : IsStarted plan m summary None [] g) (none : g.end ≡ None) where
+module _ (plan : PlanOf) (m new : Held) (g : Started) (r : IsStarted plan m None [] g) (none : g.end ≡ None) where
   learn_goes : GoesOn plan m r.flight
   learn_goes = subst (StandsBy plan m r.flight) none r.stands
 
   learn_may : may_turn plan r.flight ≡ true
-  learn_may = turns plan r.flight learn_goes.on (learn_no_entry plan r.flight r.keeps.0)
+  learn_may = turns plan r.flight learn_goes.on (learn_no_entry plan r.flight r.keeps)
 
   abbrev learn_turn : PatchedTurn
   learn_turn = record { notes = []; outcome = turn_of plan.image r.flight.state }
 
   learn_same : flight_turn plan r.flight ≡ learn_turn
   learn_same =
-      ap (λ (mode : Mode). elim (is_live mode) as (λ b. PatchedTurn) [ true ↦ patched_turn plan.image r.flight.table r.flight.state | false ↦ learn_turn ]) r.keeps.0
+      ap (λ (mode : Mode). elim (is_live mode) as (λ b. PatchedTurn) [ true ↦ patched_turn plan.image r.flight.table r.flight.state | false ↦ learn_turn ]) r.keeps
 
   pub learn_flight : flight_in plan (Some (going_with (after_turn g None) [])) ≡ option_map (turned plan) (flight_in plan (Some (going_with g [])))
-  learn_flight = flight_more plan m new summary None [] g r learn_goes learn_may learn_turn learn_same
+  learn_flight = flight_more plan m new None [] g r learn_goes learn_may learn_turn learn_same
 
   pub learn_after : (left : ℕ) (end : Option End)
-      → ((seen : List Observation) → StandsFor summary seen → StandsFor later (seen ++ seen_in (state_of m) ∷ []))
       → state_of new ≡ left_by (turn_of plan.image (state_of m)) (state_of m) → left ≡ plan.budget - g.turns → end ≡ end_with left (turn_of plan.image (state_of m))
-      → IsStarted plan new later None [] (after_turn g end)
-  learn_after left end sees state all ends =
+      → IsStarted plan new None [] (after_turn g end)
+  learn_after left end state all ends =
       let s = r.flight.state in
       let is = learn_goes.state in
       let o = turn_of plan.image s in
       let f = r.flight in
       let step = patched_step s (is_entry f.since f.transferred) learn_turn in
-      started_after plan m new summary None [] g r learn_goes learn_may learn_turn learn_same later None s left end (rw is at state) refl (λ e ends. refl) all (rw is at ends) (
-        ap (λ (run : Run). run.mode) (kept_run f step o) ∙ r.keeps.0,
-        subst (StandsFor later) (observed_more f step o)
-            (subst (λ (x : State). StandsFor later (observations (steps_of (done_in f)) ++ seen_in x ∷ [])) is (sees (observations (steps_of (done_in f))) r.keeps.1)),
-      )
+      started_after plan m new None [] g r learn_goes learn_may learn_turn learn_same None s left end (rw is at state) refl (λ e ends. refl) all (rw is at ends)
+      (ap (λ (run : Run). run.mode) (kept_run f step o) ∙ r.keeps)
 
 -- ---- a live run
 
@@ -156,12 +144,12 @@ few_more : (entered : Bool) (n k : ℕ) → n ≤ k + (if entered then 1 else 0)
 few_more true n k few = omega arith
 few_more false n k few = omega arith
 
-module _ (plan : PlanOf) (m new : Held) (summary : SummaryOf) (g : Started) (p : Patched) (r : IsStarted plan m summary (Some p) p.spans.items g) (none : g.end ≡ None) (still : wants_by p ≡ false) where
+module _ (plan : PlanOf) (m new : Held) (g : Started) (p : Patched) (r : IsStarted plan m (Some p) p.spans.items g) (none : g.end ≡ None) (still : wants_by p ≡ false) where
   live_goes : GoesOn plan m r.flight
   live_goes = subst (StandsBy plan m r.flight) none r.stands
 
   live_keeps : Keeps plan r.flight p None
-  live_keeps = subst (Keeps plan r.flight p) none r.keeps.0
+  live_keeps = subst (Keeps plan r.flight p) none r.keeps
 
   live_may : may_turn plan r.flight ≡ true
   live_may = turns plan r.flight live_goes.on (live_entry_is plan r.flight p live_keeps.lives live_goes.on live_keeps.marks ∙ still)
@@ -186,7 +174,7 @@ module _ (plan : PlanOf) (m new : Held) (summary : SummaryOf) (g : Started) (p :
       ap (λ (mode : Mode). elim (is_live mode) as (λ b. PatchedTurn) [ true ↦ live_turn | false ↦ record { notes = []; outcome = turn_of plan.image r.flight.state } ]) live_keeps.lives
 
   pub live_flight : flight_in plan (Some (going_with (after_turn g None) p.spans.items)) ≡ option_map (turned plan) (flight_in plan (Some (going_with g p.spans.items)))
-  live_flight = flight_more plan m new summary (Some p) p.spans.items g r live_goes live_may live_turn live_same
+  live_flight = flight_more plan m new (Some p) p.spans.items g r live_goes live_may live_turn live_same
 
   abbrev live_step : PatchedStep
   live_step = patched_step r.flight.state (is_entry r.flight.since r.flight.transferred) live_turn
@@ -235,20 +223,20 @@ module _ (plan : PlanOf) (m new : Held) (summary : SummaryOf) (g : Started) (p :
       → end ≡ end_with left (patched_turn image table s).outcome
       → IsNoted (patched_turn image table s) p q
       → (end ≡ None → EntersAfter (is_transfer_in (patched_turn image table s).outcome) p q)
-      → IsStarted plan new summary (Some q) p.spans.items (after_turn g end)
+      → IsStarted plan new (Some q) p.spans.items (after_turn g end)
   live_after_by image table s q left end same table_is is all state ends noted after =
       let noted_so : IsNoted live_turn p q = rw (same, table_is, is) at noted in
-      started_after plan m new summary (Some p) p.spans.items g r live_goes live_may live_turn live_same summary (Some q) (patched_state plan.image r.flight.table r.flight.state) left end
+      started_after plan m new (Some p) p.spans.items g r live_goes live_may live_turn live_same (Some q) (patched_state plan.image r.flight.table r.flight.state) left end
       (rw (same, table_is, is) at state) refl (λ e ended. end_sites_kept plan.image r.flight.table r.flight.state e ended) all (rw (same, table_is, is) at ends)
-      (keeps_more q noted_so left end (rw (same, table_is, is) at ends) (rw (same, table_is, is) at after), r.keeps.1)
+      (keeps_more q noted_so left end (rw (same, table_is, is) at ends) (rw (same, table_is, is) at after))
 
   pub live_after : (image : Picture) (q : Patched) (left : ℕ) (end : Option End) → image ≡ plan.image → left ≡ plan.budget - g.turns
       → state_of new ≡ turned_state image (last_table p.spans.items) (state_of m)
       → end ≡ end_with left (patched_turn image (last_table p.spans.items) (state_of m)).outcome
       → IsNoted (patched_turn image (last_table p.spans.items) (state_of m)) p q
       → (end ≡ None → EntersAfter (is_transfer_in (patched_turn image (last_table p.spans.items) (state_of m)).outcome) p q)
-      → IsStarted plan new summary (Some q) q.spans.items (after_turn g end)
+      → IsStarted plan new (Some q) q.spans.items (after_turn g end)
   live_after image q left end same all state ends noted after =
       let spans : q.spans.items ≡ p.spans.items = ap (λ v. v.items) noted.spans in
-      subst (λ (spans : List Span). IsStarted plan new summary (Some q) spans (after_turn g end)) (sym spans)
+      subst (λ (spans : List Span). IsStarted plan new (Some q) spans (after_turn g end)) (sym spans)
       (live_after_by image (last_table p.spans.items) (state_of m) q left end same live_keeps.table live_goes.state all state ends noted after)

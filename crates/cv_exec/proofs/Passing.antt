@@ -10,11 +10,11 @@ use Rattle.cv_base.specs.Picture.{Picture, is_point}
 use Rattle.cv_base.specs.PlanOf.{PlanOf}
 use Rattle.cv_exec.specs.declared.flying.Started.{Started}
 use Rattle.cv_exec.specs.declared.patched.Patched.{Patched}
-use Rattle.cv_exec.specs.ArenaOf.{Going, adopted_in}
-use Rattle.cv_exec.specs.ArenaStands.{GoesOn, IsStarted, Keeps, Leaves, Marks, StandsBy, turns_in, with_adopted}
+use Rattle.cv_exec.specs.ArenaOf.{Going, adopted_in, turns_in}
+use Rattle.cv_exec.specs.InFlightStands.{GoesOn, IsStarted, Keeps, Leaves, Marks, StandsBy}
 use Rattle.cv_exec.specs.Keeping.{IsNoted, IsReady, IsUpTo, last_table, wants_by}
 use Rattle.cv_exec.specs.LiveRun.{Span, adoptions_of}
-use Rattle.cv_exec.specs.Passing.{EndsBy, passed, passed_by, with_turns}
+use Rattle.cv_exec.specs.Passing.{EndsBy, passed, passed_by, with_adopted, with_turns}
 use Rattle.cv_patch.specs.Indexing.{AreFree, has_patch}
 use Rattle.cv_exec.proofs.Following.{Follows, follows}
 use Rattle.cv_exec.proofs.Notes.{fired_rises, kept_on, tally_rises}
@@ -26,7 +26,6 @@ use Rattle.cv_histories.specs.Runs.{Run}
 use Rattle.cv_histories.specs.Seen.{is_live}
 use Rattle.cv_machine.specs.Held.{Held, state_of}
 use Rattle.cv_machine.specs.PlainTurns.{GoesOn as TurnGoesOn, IsStretch, LastOf}
-use Rattle.cv_observe.specs.StandsFor.{SummaryOf}
 use Rattle.cv_patch.specs.Counts.{CountsChecks, CountsFirings}
 use Rattle.cv_runs.specs.Arithmetic.{plus32}
 use Rattle.cv_runs.specs.Apply.{Left, after, apply, one_patch, patch_point, went_on}
@@ -245,19 +244,19 @@ pub ends_room : (rule : Option ℕ) (room : ℕ) → IfSome rule (λ since. sinc
 ends_room None room is = tt
 ends_room (Some since) room is = omega arith
 
--- ---- an arena's run
+-- ---- a started run
 
 some_since : (b : Bool) (o : Option ℕ) → since_next b o ≡ None → ⊥
 some_since true o is = cc
 some_since false None is = cc
 some_since false (Some n) is = cc
 
-module _ (plan : PlanOf) (m new : Held) (summary : SummaryOf) (g : Started) (p : Patched) (r : IsStarted plan m summary (Some p) p.spans.items g) (none : g.end ≡ None) where
+module _ (plan : PlanOf) (m new : Held) (g : Started) (p : Patched) (r : IsStarted plan m (Some p) p.spans.items g) (none : g.end ≡ None) where
   goes_here : GoesOn plan m r.flight
   goes_here = subst (StandsBy plan m r.flight) none r.stands
 
   keeps_here : Keeps plan r.flight p None
-  keeps_here = subst (Keeps plan r.flight p) none r.keeps.0
+  keeps_here = subst (Keeps plan r.flight p) none r.keeps
 
   flies_here : Flies plan p.spans.items g.run r.run g.turns r.flight p
   flies_here = record {
@@ -281,7 +280,7 @@ module _ (plan : PlanOf) (m new : Held) (summary : SummaryOf) (g : Started) (p :
   ready_now still = keeps_here.marks.ready (keeps_here.marks.prepared still)
 
   -- the machine stands in the same state
-  pub stays_so : state_of new ≡ state_of m → IsStarted plan new summary (Some p) p.spans.items g
+  pub stays_so : state_of new ≡ state_of m → IsStarted plan new (Some p) p.spans.items g
   stays_so same = record {
     run = r.run;
     flight = r.flight;
@@ -297,7 +296,7 @@ module _ (plan : PlanOf) (m new : Held) (summary : SummaryOf) (g : Started) (p :
     keeps = r.keeps;
   }
 
-  reached : (turns : ℕ) (q : Patched) → Reaches plan p.spans.items g.run r.run (g.turns + turns) (state_of new) q → IsStarted plan new summary (Some q) p.spans.items (record g { turns = g.turns + turns })
+  reached : (turns : ℕ) (q : Patched) → Reaches plan p.spans.items g.run r.run (g.turns + turns) (state_of new) q → IsStarted plan new (Some q) p.spans.items (record g { turns = g.turns + turns })
   reached turns q there = record {
     run = r.run;
     flight = there.flight;
@@ -310,7 +309,7 @@ module _ (plan : PlanOf) (m new : Held) (summary : SummaryOf) (g : Started) (p :
     turns = there.flies.count;
     leaves = there.flies.leaves;
     stands = subst (StandsBy plan new there.flight) (sym none) (record { on = there.flies.on; state = sym there.at });
-    keeps = (subst (Keeps plan there.flight q) (sym none) there.flies.keeps, r.keeps.1);
+    keeps = subst (Keeps plan there.flight q) (sym none) there.flies.keeps;
   }
 
   by_rule : (still : wants_by p ≡ false) (count : ℕ) (transfer : Bool) (rule : Option ℕ) → p.rule ≡ rule → EndsBy rule (suc count) → g.turns + suc count < plan.budget → AreFree r.flight.table (suc count) (pc_of r.flight.state)
@@ -323,7 +322,7 @@ module _ (plan : PlanOf) (m new : Held) (summary : SummaryOf) (g : Started) (p :
 
   -- the machine made so many turns
   pub passes_on : (still : wants_by p ≡ false) (image : Picture) (turns : ℕ) (transfer : Bool) → image ≡ plan.image → 0 < turns → EndsBy p.rule turns → g.turns + turns < plan.budget → AreFree (last_table p.spans.items) turns m.core.pc
-      → IsStretch image turns (state_of m) (state_of new) transfer → IsStarted plan new summary (Some (passed turns transfer p)) p.spans.items (record g { turns = g.turns + turns })
+      → IsStretch image turns (state_of m) (state_of new) transfer → IsStarted plan new (Some (passed turns transfer p)) p.spans.items (record g { turns = g.turns + turns })
   passes_on still image zero transfer same some ends left free turns = absurd (omega arith)
   passes_on still image (suc count) transfer same some ends left free turns =
       let free_so : AreFree r.flight.table (suc count) (pc_of (state_of m)) = subst (λ (t : Table). AreFree t (suc count) (pc_of (state_of m))) keeps_here.table free in

@@ -1,5 +1,5 @@
 -- A run in flight through one more turn: what its steps leave, and how it ends.
-use Rattle.std.proofs.Common.{◌≡◌, ◌<◌, ◌≤◌, ◌+◌, ◌-◌, ℕ, suc, Bool, true, false, List, [], ◌∷◌, ◌++◌, length, Option, Some, None, refl, sym, ap, ◌∙◌, append_assoc, arith}
+use Rattle.std.proofs.Common.{◌≡◌, ◌<◌, ◌≤◌, ◌-◌, ℕ, suc, Bool, true, false, List, [], ◌∷◌, ◌++◌, length, Option, Some, None, refl, sym, ap, ◌∙◌, append_assoc, arith}
 use Rattle.std.specs.Prelude.{◌==◌, ◌||◌, if◌then◌else◌}
 use Rattle.std.proofs.lemmas.Bool.{eq-eqb}
 use Rattle.std.proofs.lemmas.Bool.Decides.{nat_tests}
@@ -7,10 +7,10 @@ use Rattle.std.proofs.lemmas.List.{map-append, reverse-append}
 use Rattle.cv_base.specs.declared.ends.End.{End}
 use Rattle.cv_base.specs.declared.ends.End.TheVariants.{Failure, Budget}
 use Rattle.cv_base.specs.PlanOf.{PlanOf}
-use Rattle.cv_exec.specs.ArenaStands.{EndedSo, GoesOn, Leaves, StandsBy}
+use Rattle.cv_exec.specs.InFlightStands.{EndedSo, GoesOn, Leaves, StandsBy}
 use Rattle.cv_exec.specs.RunEnds.{end_sites, end_with}
 use Rattle.cv_histories.specs.Flight.{Flight, done_in, has_ended, turned_by}
-use Rattle.cv_histories.specs.Rows.{last_sites, sites_at_end, sites_in, sites_of}
+use Rattle.cv_histories.specs.Rows.{last_sites, sites_at_end, sites_of}
 use Rattle.cv_machine.specs.Answers.{left_by}
 use Rattle.cv_machine.specs.Held.{Held, state_of}
 use Rattle.cv_runs.specs.PatchedRun.{PatchedStep, steps_of}

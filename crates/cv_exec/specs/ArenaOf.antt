@@ -1,6 +1,6 @@
--- What an arena stands for: its plan, the run in flight in it, and what it has seen
--- (docs/REPAIR.md, "Runs in flight").
-use Rattle.std.specs.Prelude.{ℕ, Bool, true, false, ◌+◌, List, [], Option, Some, None, option_map, option_and_then}
+-- What a run in flight and an arena stand for: the plan, the run that is going on, and what an arena
+-- has seen (docs/REPAIR.md, "Runs in flight").
+use Rattle.std.specs.Prelude.{ℕ, Bool, true, false, not, ◌+◌, List, [], Option, Some, None, option_map, option_and_then}
 use Rattle.cv_base.specs.declared.entries.Entry.{Entry}
 use Rattle.cv_base.specs.declared.entries.Observation.{Observation}
 use Rattle.cv_base.specs.PlanOf.{PlanOf}
@@ -20,6 +20,11 @@ pub record Going : Type 0 where
   pub worker : ℕ
   pub turns : ℕ
   pub adopted : List Span
+
+-- a run in flight, without what is seen of it
+pub record InFlightOf : Type 0 where
+  pub plan : PlanOf
+  pub going : Option Going
 
 pub record ArenaOf : Type 0 where
   pub plan : PlanOf
@@ -51,6 +56,15 @@ wants plan going = flies_so (may_enter plan) (flight_in plan going)
 
 abbrev pub wants_entry : ArenaOf → Bool
 wants_entry a = wants a.plan a.going
+
+-- it is a learn run
+abbrev pub learns : PlanOf → Option Going → Bool
+learns plan going = flies_so (λ (f : Flight). not (is_live f.run.mode)) (flight_in plan going)
+
+-- the turns so far
+abbrev pub turns_in : Option Going → ℕ
+turns_in None = 0
+turns_in (Some g) = g.turns
 
 -- the versions that the run has adopted
 abbrev pub adopted_in : Option Going → List Span

@@ -83,6 +83,11 @@ pub record KeepsCounts (old new : Patched) : Type 0 where
   pub firings : (firings : List FiredNote) → CountsFirings old.fired firings → CountsFirings new.fired firings
   pub up_to : (n : ℕ) → IsUpTo n old → IsUpTo n new
 
+-- one is a copy of the other
+pub record IsCopy (old new : Patched) : Type 0 where
+  pub rest : new ≡ record old { spans = new.spans }
+  pub spans : new.spans.items ≡ old.spans.items
+
 -- a block entry adopted a version with its table
 pub record IsEntered (version : ℕ) (table : Table) (old new : Patched) : Type 0 where
   pub text : new.text ≡ old.text

@@ -1,6 +1,7 @@
 pub mod ArenaOf
 pub mod ArenaStands
 pub mod Ending
+pub mod InFlightStands
 pub mod Keeping
 pub mod LearnRun
 pub mod LiveRun

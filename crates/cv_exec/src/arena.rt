@@ -1,18 +1,16 @@
 ghost use Rattle.std.specs.List.{AllByRecursion};
-ghost use Rattle.std.specs.Prelude.{◌≡◌, ◌≤◌, ◌<◌, ◌++◌, [], ℕ, List, Some, None, false, true, option_map, slice_get, IfOk, OnOk, OnErr, IsSome};
+ghost use Rattle.std.specs.Prelude.{◌≡◌, ◌≤◌, ◌<◌, ◌++◌, [], ℕ, List, Some, None, false, true, option_map, slice_get, IfOk, OnOk, OnErr, IsOk, IsSome};
 ghost use Rattle.cv_base.specs.declared.plan.Mode.TheVariants as mode;
 ghost use Rattle.cv_blocks.specs.TextMap.{text_only};
-ghost use Rattle.cv_exec.specs.ArenaOf.{adopted_in, entered, entry_of_going, flight_in, has_ended, one_more, seen_so_far, wants_entry};
-ghost use Rattle.cv_exec.specs.ArenaStands.{turns_in, with_adopted};
+ghost use Rattle.cv_exec.specs.ArenaOf.{adopted_in, entered, entry_of_going, flight_in, has_ended, is_over, one_more, seen_in, seen_so_far, turns_in, wants_entry};
 ghost use Rattle.cv_exec.specs.Keeping.{IsNotBelow, is_of_version, last_span, last_table, table_if};
 ghost use Rattle.cv_exec.specs.LearnRun.{IsLearnRun, learn_steps, entry_by};
 ghost use Rattle.cv_exec.specs.LiveRun.{HaveTables, IsLiveRun, MayAdopt, Span, rows_of};
-ghost use Rattle.cv_exec.specs.Passing.{with_turns};
-ghost use Rattle.cv_exec.specs.RecordOf.{IsHonestUnder};
+ghost use Rattle.cv_exec.specs.Passing.{with_adopted, with_turns};
 ghost use Rattle.cv_histories.specs.Seen.{is_live, is_observed, observed_of};
 ghost use Rattle.cv_histories.specs.Unfired.{SaysPlain};
 ghost use Rattle.cv_histories.specs.Flight as flight;
-ghost use Rattle.cv_histories.specs.Flight.{Flight, begun, turned};
+ghost use Rattle.cv_histories.specs.Flight.{begun, turned};
 ghost use Rattle.cv_histories.specs.Honest.{IsHonest};
 ghost use Rattle.cv_histories.specs.Legal.{NeverFalls};
 ghost use Rattle.cv_histories.specs.Rows.{written};
@@ -21,34 +19,25 @@ ghost use Rattle.cv_observe.specs.StandsFor.{StandsFor};
 ghost use Rattle.cv_patch.specs.Adopting.{IsGrown};
 ghost use Rattle.cv_runs.specs.Learned.{observations};
 
-use crate::ending::{entry_of, spans_in, told};
-use crate::flying::{Flying, Started, flying_for};
-use crate::look::look;
-use crate::plans::{budget_of, input_of, mode_of};
-use crate::turns::{see, turn};
-use crate::{Record, SharedPlan};
-use cv_base::{Entry, Mode, NoMemory, PatchTable, Plan, TextRange};
+use crate::turns::see;
+use crate::{InFlight, Record};
+use cv_base::{Entry, Mode, NoMemory, PatchTable, Plan};
 use cv_blocks::TextMap;
 use cv_histories::is_observed;
-use cv_laws::{flown_is_honest, flown_is_of, flown_is_plain, rows_are_joined, unfired_is_plain};
-use cv_machine::Machine;
+use cv_laws::{flown_is_of, flown_is_plain, unfired_is_plain};
 use cv_observe::Summary;
 use cv_patch::{Adopter, Watcher};
 use std::alloc::Global;
 use std::marker::Model;
-use std::mem;
 use std::sync::Arc;
 
-/// Where the runs of one plan are run, one after another, each turn by turn. Contracts see the
-/// plan, the run that is going on with its turns so far and what it adopted, which make the run in
-/// flight, and the summary of what was seen before its turns.
+/// Where the runs of one plan are run, one after another, each turn by turn, and seen. Contracts see
+/// the plan, the run that is going on with its turns so far and what it adopted, which make the run
+/// in flight, and the summary of what was seen before its turns.
 #[derive(Drop)]
 pub struct Arena {
-    plan: SharedPlan,
-    machine: Machine,
+    flight: InFlight,
     summary: Summary,
-    text: TextRange,
-    flying: Flying,
 }
 
 impl Model for Arena {
@@ -56,11 +45,11 @@ impl Model for Arena {
 
     ghost Value = { ArenaOf };
 
-    ghost use Rattle.cv_exec.specs.ArenaStands.{IsArena, going_of};
+    ghost use Rattle.cv_exec.specs.ArenaStands.{IsArena};
 
-    ghost view = { λ a. record { plan = a.plan; going = going_of a.flying; summary = a.summary } };
+    ghost view = { λ a. record { plan = a.flight.plan; going = a.flight.going; summary = a.summary } };
 
-    ghost invariant = { λ a. IsArena a.plan a.machine a.summary a.text a.flying };
+    ghost invariant = { λ a. IsArena a.flight a.summary };
 }
 
 impl Arena {
@@ -70,21 +59,13 @@ impl Arena {
         ensures going { IfOk result (λ a. a.going ≡ None) }
     {
         let map = TextMap::make(alloc, &plan.image)?;
-        let text = map.range();
         let summary = Summary::make(alloc, &map)?;
-        let machine = Machine::make(alloc, &plan.image)?;
-        let plan = SharedPlan::make(alloc, plan)?;
-        Ok(Arena {
-            plan,
-            machine,
-            summary,
-            text,
-            flying: Flying::Nothing,
-        })
+        let flight = InFlight::with_text(alloc, plan, map.range())?;
+        Ok(Arena { flight, summary })
     }
 
     /// Starts a run of the arena's plan, by its number, for a worker of the plan. A run that was not
-    /// finished is given up. Where memory is refused the arena stays as it was.
+    /// finished is given up. It takes no memory.
     pub fn start(
         &mut self,
         alloc: Global,
@@ -100,12 +81,10 @@ impl Arena {
         ensures begins { OnOk result (has_ended self.new ≡ false) }
         ensures plan { self.new.plan ≡ self.old.plan }
         ensures err { OnErr result (self.new ≡ self.old) }
+        ensures ok { IsOk result }
     {
-        let _budget = budget_of(plan);
-        let input = input_of(plan, run);
-        self.machine.begin(alloc, input)?;
         self.summary.clear();
-        self.flying = flying_for(alloc, mode_of(plan, run), self.text, run, worker);
+        self.flight.start(alloc, plan, run, worker);
         Ok(())
     }
 
@@ -113,7 +92,7 @@ impl Arena {
     pub fn ended(&self) -> bool
         ensures { result ≡ has_ended self.now }
     {
-        self.flying.ended()
+        self.flight.ended()
     }
 
     /// Whether a live run is going on whose next turn is a block entry, for which no version was
@@ -121,7 +100,7 @@ impl Arena {
     pub fn wants_entry(&self) -> bool
         ensures { result ≡ wants_entry self.now }
     {
-        self.flying.wants_entry()
+        self.flight.wants_entry()
     }
 
     /// The block entry that is wanted adopts a version, with its table: a version not below the last
@@ -137,17 +116,12 @@ impl Arena {
         ensures plan { self.new.plan ≡ self.old.plan }
         ensures err { OnErr result (self.new ≡ self.old) }
     {
-        let _budget = budget_of(self.plan.get());
-        match &mut self.flying {
-            Flying::Living(_, patched) => patched.adopt(version, table),
-            Flying::Nothing | Flying::Learning(_) => unreachable!(),
-        }
+        self.flight.adopt(version, table)
     }
 
     /// One turn of the run that is going on: whether the run has ended with it. A learn run's turn is
     /// plain, and the summary sees the point, the registers and the frame's sp before it; a live run's
-    /// is patched with the table that was adopted last. Where memory is refused the arena stands
-    /// before the same turn.
+    /// is patched with the table that was adopted last. It takes no memory.
     pub fn step(&mut self) -> Result<bool, NoMemory>
         requires started { IsSome self.old.going }
         requires goes_on { has_ended self.old ≡ false }
@@ -157,20 +131,10 @@ impl Arena {
         ensures ended { IfOk result (λ over. over ≡ has_ended self.new) }
         ensures plan { self.new.plan ≡ self.old.plan }
         ensures err { OnErr result (self.new ≡ self.old) }
+        ensures ok { IsOk result }
     {
-        let budget = budget_of(self.plan.get());
-        match &mut self.flying {
-            Flying::Nothing => unreachable!(),
-            Flying::Learning(started) => {
-                see(&mut self.summary, self.machine.core())?;
-                let end = turn(&mut self.machine, budget - started.turns);
-                Ok(started.took(end))
-            }
-            Flying::Living(started, patched) => {
-                let end = patched.turn(&mut self.machine, budget - started.turns);
-                Ok(started.took(end))
-            }
-        }
+        see_before(&self.flight, &mut self.summary);
+        Ok(self.flight.step())
     }
 
     /// The record of a run that has ended, which is no longer going on then. Of a live run that is
@@ -191,10 +155,9 @@ impl Arena {
         ensures kept { self.new.plan ≡ self.old.plan }
         ensures err { OnErr result (self.new ≡ self.old) }
     {
-        let plan = self.plan.shared()?;
-        let entry = self.entry(alloc)?;
-        let flying = mem::replace(&mut self.flying, Flying::Nothing);
-        let spans = spans_in(alloc, flying);
+        let plan = self.flight.shared()?;
+        let entry = self.flight.entry(alloc)?;
+        let spans = self.flight.land(alloc);
         self.look_again(alloc, &entry);
         Ok(Record { plan, entry, spans })
     }
@@ -216,35 +179,7 @@ impl Arena {
         if !is_observed(entry) {
             return;
         }
-        let plan = self.plan.get();
-        let input = input_of(plan, entry.run);
-        let budget = budget_of(plan);
-        look(alloc, &mut self.machine, &mut self.summary, input, budget);
-    }
-
-    /// The entry of a run that has ended.
-    fn entry(&self, alloc: Global) -> Result<Entry, NoMemory>
-        requires { has_ended self.now ≡ true }
-        ensures entry { IfOk result (λ e. entry_of_going self.now.plan self.now.going ≡ Some e) }
-        ensures honest { IfOk result (λ e. IsHonestUnder self.now.plan (adopted_in self.now.going) e) }
-        ensures rows { IfOk result (λ e. rows_of (adopted_in self.now.going) ≡ e.adopted) }
-        ensures going { IfOk result (λ e. self.now.going ≡ Some (record { run = e.run; worker = e.worker; turns = e.turns; adopted = adopted_in self.now.going })) }
-        ensures rises { IfOk result (λ e. NeverFalls e.adopted) }
-        ensures learned { IfOk result (λ e. is_live e.mode ≡ false → StandsFor self.now.summary (observed_of self.now.plan (run_at self.now.plan e.run))) }
-        ensures unseen { IfOk result (λ e. is_live e.mode ≡ true → StandsFor self.now.summary []) }
-        ensures turns { IfOk result (λ e. e.turns ≤ self.now.plan.budget) }
-        ensures worker { IfOk result (λ e. e.worker < self.now.plan.workers) }
-        ensures run { IfOk result (λ e. IsSome (run_at self.now.plan e.run)) }
-        ensures seen { StandsFor self.now.summary (seen_so_far self.now.plan self.now.going) }
-    {
-        flown_is_honest();
-        flown_is_plain();
-        rows_are_joined();
-        let Some((started, end)) = self.flying.ending() else {
-            unreachable!()
-        };
-        let told = told(alloc, &self.flying)?;
-        entry_of(alloc, started, end, &self.machine, told)
+        self.flight.look(alloc, &mut self.summary, entry.run);
     }
 
     /// A learn run of the arena's plan from its start to its end: `start`, `step` until it has
@@ -356,20 +291,7 @@ impl Arena {
         ensures same { result ≡ false → self.new ≡ self.old }
         ensures plan { self.new.plan ≡ self.old.plan }
     {
-        let budget = budget_of(self.plan.get());
-        match &mut self.flying {
-            Flying::Nothing | Flying::Learning(_) => false,
-            Flying::Living(started, patched) => {
-                let most = patched.free(self.machine.core().pc, budget - 1 - started.turns);
-                let stretch = self.machine.stretch(most);
-                if stretch.turns == 0 {
-                    return false;
-                }
-                patched.pass(stretch);
-                started.turns += stretch.turns;
-                true
-            }
-        }
+        self.flight.pass()
     }
 
     /// Before a turn of a live run. Where it is a block entry, the watcher is told of it, and the
@@ -420,11 +342,7 @@ impl Arena {
         ensures same { result ≡ false → self.new ≡ self.old }
         ensures plan { self.new.plan ≡ self.old.plan }
     {
-        let _budget = budget_of(self.plan.get());
-        match &mut self.flying {
-            Flying::Living(_, patched) => patched.again(version),
-            Flying::Nothing | Flying::Learning(_) => unreachable!(),
-        }
+        self.flight.again(version)
     }
 
     /// The table of a version that the adopter has answered, which is asked only where the run has not
@@ -453,10 +371,7 @@ impl Arena {
     fn last_table(&self, version: u32) -> Result<Option<Arc<PatchTable, Global>>, NoMemory>
         ensures { IfOk result (λ found. option_map (λ t. t.value) found ≡ table_if version (last_span (adopted_in self.now.going))) }
     {
-        match &self.flying {
-            Flying::Living(_, patched) => patched.last_table(version),
-            Flying::Nothing | Flying::Learning(_) => Ok(None),
-        }
+        self.flight.last_table(version)
     }
 
     /// The turns so far of the run that is going on.
@@ -464,7 +379,7 @@ impl Arena {
         ensures value { result ≡ turns_in self.now.going }
         ensures below { has_ended self.now ≡ false → IsSome self.now.going → result < self.now.plan.budget }
     {
-        self.flying.turns()
+        self.flight.turns()
     }
 
     /// What was seen before the turns of the learn run that is going on, and nothing while a live run
@@ -475,7 +390,21 @@ impl Arena {
         ensures text { result.now.text ≡ text_only self.now.plan.image }
         ensures so_far { IsSome self.now.going → StandsFor result.now (seen_so_far self.now.plan self.now.going) }
     {
-        let _flying = &self.flying;
+        let _flight = &self.flight;
         &self.summary
+    }
+}
+
+/// Sees what stands before the next turn, where a learn run is going on.
+fn see_before(flight: &InFlight, summary: &mut Summary)
+    requires started { IsSome flight.now.going }
+    requires goes_on { is_over flight.now.plan flight.now.going ≡ false }
+    requires text { summary.old.text ≡ text_only flight.now.plan.image }
+    requires seen { StandsFor summary.old (seen_so_far flight.now.plan flight.now.going) }
+    ensures seen { StandsFor summary.new (seen_in (option_map (turned flight.now.plan) (flight_in flight.now.plan flight.now.going))) }
+    ensures text { summary.new.text ≡ summary.old.text }
+{
+    if flight.learns() {
+        see(summary, flight.machine().core()).unwrap();
     }
 }

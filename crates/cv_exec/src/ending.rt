@@ -1,5 +1,5 @@
 ghost use Rattle.std.specs.Prelude.{◌≡◌, IfOk};
-ghost use Rattle.cv_exec.specs.ArenaStands.{adopted_by};
+ghost use Rattle.cv_exec.specs.InFlightStands.{adopted_by};
 ghost use Rattle.cv_exec.specs.Ending.{IsTold, ended_entry};
 
 use crate::flying::{Flying, Started};

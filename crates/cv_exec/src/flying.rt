@@ -1,8 +1,8 @@
-ghost use Rattle.std.specs.Prelude.{◌≡◌, ◌<◌, ◌+◌, is_some};
-ghost use Rattle.cv_exec.specs.ArenaStands.{BeginsIn, ending_of, has_run_ended, started_turns, wants_in, with_end};
+ghost use Rattle.std.specs.Prelude.{◌≡◌, IfOk, ◌<◌, ◌+◌, is_some};
+ghost use Rattle.cv_exec.specs.InFlightStands.{BeginsIn, IsSame, ending_of, has_run_ended, learns_by, started_turns, wants_in, with_end};
 
 use crate::patched::Patched;
-use cv_base::{End, Mode, TextRange};
+use cv_base::{End, Mode, NoMemory, TextRange};
 use std::alloc::Global;
 
 /// A run that was started and not finished.
@@ -29,7 +29,7 @@ impl Started {
     }
 }
 
-/// What is going on in an arena.
+/// What is going on.
 #[derive(Drop)]
 pub(crate) enum Flying {
     Nothing,
@@ -60,6 +60,13 @@ impl Flying {
         }
     }
 
+    /// Whether it is a learn run.
+    pub(crate) fn learns(&self) -> bool
+        ensures { result ≡ learns_by self.now }
+    {
+        matches!(self, Flying::Learning(_))
+    }
+
     /// The turns so far.
     pub(crate) fn turns(&self) -> u32
         ensures { result ≡ started_turns self.now }
@@ -68,6 +75,17 @@ impl Flying {
             Flying::Nothing => 0,
             Flying::Learning(started) => started.turns,
             Flying::Living(started, _) => started.turns,
+        }
+    }
+
+    /// The same once more.
+    pub(crate) fn copied(&self) -> Result<Flying, NoMemory>
+        ensures { IfOk result (IsSame self.now) }
+    {
+        match self {
+            Flying::Nothing => Ok(Flying::Nothing),
+            Flying::Learning(started) => Ok(Flying::Learning(*started)),
+            Flying::Living(started, patched) => Ok(Flying::Living(*started, patched.copied()?)),
         }
     }
 

@@ -4,7 +4,7 @@ ghost use Rattle.cv_base.specs.Points.{is_point_in};
 ghost use Rattle.cv_histories.specs.Rows.{checks_in, firings_in};
 ghost use Rattle.cv_exec.specs.Ending.{live_told};
 ghost use Rattle.cv_exec.specs.LiveRun.{MayAdopt, adoptions_of, one_entry_more, rows_of};
-ghost use Rattle.cv_exec.specs.Keeping.{EntersAfter, IsEntered, IsFresh, IsKept, IsNoted, IsReady, IsRefused, KeepsCounts, MayTurn, indexed_table, is_of_version, is_transfer_in, last_span, last_table, left_now, state_then, table_if, turn_now, wants_by};
+ghost use Rattle.cv_exec.specs.Keeping.{EntersAfter, IsCopy, IsEntered, IsFresh, IsKept, IsNoted, IsReady, IsRefused, KeepsCounts, MayTurn, indexed_table, is_of_version, is_transfer_in, last_span, last_table, left_now, state_then, table_if, turn_now, wants_by};
 ghost use Rattle.cv_exec.specs.Passing.{EndsBy, passed};
 ghost use Rattle.cv_patch.specs.Indexing.{AreFree};
 ghost use Rattle.cv_exec.specs.RunEnds.{end_with};
@@ -38,6 +38,20 @@ impl Model for Span {
     ghost Value = { live.Span };
 
     ghost view = { λ s. record { version = s.version; entries = s.entries; table = s.table.value } };
+}
+
+impl Span {
+    /// The same, with its table once more.
+    fn copied(&self) -> Result<Span, NoMemory>
+        ensures { IfOk result (λ s. s ≡ self.now) }
+    {
+        let table = Arc::try_clone(&self.table)?;
+        Ok(Span {
+            version: self.version,
+            entries: self.entries,
+            table,
+        })
+    }
 }
 
 /// What a live run keeps beside its machine: where its blocks begin, what it has adopted, and what
@@ -79,6 +93,28 @@ impl Patched {
             tally: Tally::make(alloc),
             fired: Fired::make(alloc),
         }
+    }
+
+    /// The same once more.
+    pub(crate) fn copied(&self) -> Result<Patched, NoMemory>
+        ensures { IfOk result (IsCopy self.now) }
+    {
+        let spans = copied_spans(self.alloc, self.spans.as_slice())?;
+        let index = copied_index(self.alloc, &self.index)?;
+        let tally = self.tally.copied(self.alloc)?;
+        let fired = self.fired.copied(self.alloc)?;
+        Ok(Patched {
+            alloc: self.alloc,
+            text: self.text,
+            rule: self.rule,
+            enters: self.enters,
+            entered: self.entered,
+            spans,
+            prepared: self.prepared,
+            index,
+            tally,
+            fired,
+        })
     }
 
     /// Whether the next turn is a block entry for which no version was adopted yet.
@@ -276,6 +312,27 @@ impl Patched {
     {
         let Patched { spans, .. } = self;
         spans
+    }
+}
+
+/// The same spans.
+fn copied_spans(alloc: Global, spans: &[Span]) -> Result<Vec<Span>, NoMemory>
+    ensures { IfOk result (λ v. v.items ≡ spans.now) }
+{
+    let mut copies = Vec::with_capacity(alloc, spans.len())?;
+    for span in spans {
+        copies.push(span.copied()?)?;
+    }
+    Ok(copies)
+}
+
+/// The same table with an equal index, where there is one.
+fn copied_index(alloc: Global, index: &Option<Indexed>) -> Result<Option<Indexed>, NoMemory>
+    ensures { IfOk result (λ copy. copy ≡ index.now) }
+{
+    match index {
+        Some(table) => Ok(Some(table.copied(alloc)?)),
+        None => Ok(None),
     }
 }
 

@@ -64,6 +64,14 @@ impl Fired {
         Ok(Items::from_vec(rows))
     }
 
+    /// Equal rows.
+    pub fn copied(&self, alloc: Global) -> Result<Fired, NoMemory>
+        ensures { IfOk result (λ f. f ≡ self.now) }
+    {
+        let rows = Vec::from_slice(alloc, self.rows.as_slice())?;
+        Ok(Fired { rows })
+    }
+
     /// Counts a firing of a repair, whose row has room for it. It takes no memory.
     pub(crate) fn fire(&mut self, case: u32, index: u32)
         requires row { has_fired self.old case index ≡ true }

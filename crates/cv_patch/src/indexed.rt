@@ -63,6 +63,22 @@ impl Indexed {
         })
     }
 
+    /// The same table with an equal index.
+    pub fn copied(&self, alloc: Global) -> Result<Indexed, NoMemory>
+        ensures { IfOk result (λ t. t ≡ self.now) }
+    {
+        let first = Vec::from_slice(alloc, self.first.as_slice())?;
+        let next = Vec::from_slice(alloc, self.next.as_slice())?;
+        let free = Vec::from_slice(alloc, self.free.as_slice())?;
+        let table = Arc::try_clone(&self.table)?;
+        Ok(Indexed {
+            table,
+            first,
+            next,
+            free,
+        })
+    }
+
     /// The table.
     pub fn table(&self) -> &PatchTable
         ensures { result.now ≡ self.now }

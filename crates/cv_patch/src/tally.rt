@@ -65,6 +65,14 @@ impl Tally {
         Ok(Items::from_vec(rows))
     }
 
+    /// An equal tally.
+    pub fn copied(&self, alloc: Global) -> Result<Tally, NoMemory>
+        ensures { IfOk result (λ t. t ≡ self.now) }
+    {
+        let rows = Vec::from_slice(alloc, self.rows.as_slice())?;
+        Ok(Tally { rows })
+    }
+
     /// Counts a check of a candidate, whose row has room for it. It takes no memory.
     pub(crate) fn check(&mut self, case: u32, index: u32, held: bool)
         requires row { has_tally self.old case index ≡ true }

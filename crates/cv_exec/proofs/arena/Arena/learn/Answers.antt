@@ -1,8 +1,7 @@
 use Rattle.std.proofs.Common.{◌≡◌, ◌∙◌, true, [], Some, ap, sym}
 use Rattle.std.specs.Prelude.{IfOk}
 use Rattle.std.proofs.lemmas.Result.{IfOk-weaker}
-use Rattle.cv_exec.specs.ArenaOf.{entry_of_going, is_over}
-use Rattle.cv_exec.specs.ArenaStands.{turns_in}
+use Rattle.cv_exec.specs.ArenaOf.{entry_of_going, is_over, turns_in}
 use Rattle.cv_exec.specs.LearnRun.{entry_by}
 use Rattle.cv_exec.specs.RecordOf.{RecordOf}
 use Rattle.cv_exec.proofs.Numbered.{learn_entry_by, learn_seen_by, learn_waits}

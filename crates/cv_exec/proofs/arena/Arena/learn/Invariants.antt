@@ -1,6 +1,5 @@
 use Rattle.std.proofs.Common.{◌≡◌, ◌-◌, [], Some}
-use Rattle.cv_exec.specs.ArenaOf.{has_ended}
-use Rattle.cv_exec.specs.ArenaStands.{turns_in}
+use Rattle.cv_exec.specs.ArenaOf.{has_ended, turns_in}
 use Rattle.cv_exec.proofs.arena.Arena.learn.Given as goal
 
 abbrev pub invariant-loop-over : goal.invariant-loop-over

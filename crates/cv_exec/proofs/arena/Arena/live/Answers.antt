@@ -1,8 +1,7 @@
 use Rattle.std.proofs.Common.{◌≡◌, ◌∙◌, ◌++◌, List, ap, sym, subst, arith}
 use Rattle.std.specs.List.{AllByRecursion}
 use Rattle.cv_base.specs.PlanOf.{PlanOf}
-use Rattle.cv_exec.specs.ArenaOf.{adopted_in, entry_of_going}
-use Rattle.cv_exec.specs.ArenaStands.{turns_in}
+use Rattle.cv_exec.specs.ArenaOf.{adopted_in, entry_of_going, turns_in}
 use Rattle.cv_exec.specs.LiveRun.{HaveTables, Span, rows_of}
 use Rattle.cv_exec.proofs.Answered.{grown_on}
 use Rattle.cv_exec.proofs.Numbered.{live_of}

@@ -1,8 +1,7 @@
 use Rattle.std.proofs.Common.{◌≡◌, ◌++◌, ◌-◌, ℕ, List, Some}
 use Rattle.std.specs.List.{AllByRecursion}
-use Rattle.cv_exec.specs.ArenaOf.{adopted_in, has_ended}
+use Rattle.cv_exec.specs.ArenaOf.{adopted_in, has_ended, turns_in}
 use Rattle.cv_exec.specs.LiveRun.{HaveTables, Span, rows_of}
-use Rattle.cv_exec.specs.ArenaStands.{turns_in}
 use Rattle.cv_histories.specs.Legal.{NeverFalls}
 use Rattle.cv_histories.specs.Rows.{written}
 use Rattle.cv_patch.specs.Adopting.{IsGrown}
