@@ -1,0 +1,97 @@
+-- The last change of a value, one turn after another.
+use Rattle.std.proofs.Common.{◌≡◌, ◌<◌, ◌+◌, ℕ, zero, suc, Bool, true, false, List, [], ◌∷◌, length, replicate, Option, Some, None, refl, sym, ap, ◌∙◌, arith}
+use Rattle.std.proofs.lemmas.Option.{same_Some}
+use Rattle.std.specs.Prelude.{◌==◌, if◌then◌else◌, map, option_map, slice_get, slice_index}
+use Rattle.std.specs.List.{range_with_len}
+use Rattle.cv_base.specs.PlanOf.{PlanOf}
+use Rattle.cv_replay.specs.Parts.{last_noted, or_before}
+use Rattle.cv_replay.specs.ReplayOf.{register}
+use Rattle.cv_replay.specs.Said.{are_same, changed_before, state_before, value_before}
+use Rattle.cv_replay.specs.declared.stand.Stand.{Stand}
+use Rattle.cv_replay.specs.Script.{ScriptOf, steps_by_script}
+use Rattle.cv_replay.specs.Standing.{turn_of}
+use Rattle.cv_machine.specs.Held.{Held, state_of}
+use Rattle.cv_shadow.specs.declared.frames.Core.{Core}
+use Rattle.cv_runs.specs.PlainRun.{Step}
+use Rattle.cv_runs.specs.State.{State}
+
+-- by whether the values are the same
+noted_by : (same : Bool) (turn : ℕ) (found before last : Option ℕ) → last ≡ or_before found before → (if same then last else Some turn) ≡ or_before (if same then found else Some turn) before
+noted_by true turn found before last is = is
+noted_by false turn found before last is = refl
+
+-- with one more turn
+pub one_more : (value : ℕ → Option ℕ) (turn v w : ℕ) (found before : Option ℕ) → value turn ≡ Some v → value (turn + 1) ≡ Some w → changed_before value turn ≡ or_before found before
+    → changed_before value (turn + 1) ≡ or_before (last_noted v w turn found) before
+one_more value turn v w found before now next is =
+    let one : turn + 1 ≡ suc turn = omega arith in
+    ap (changed_before value) one
+    ∙ ap (λ (o : Option ℕ). if are_same o (value (suc turn)) then changed_before value turn else Some turn) now
+    ∙ ap (λ (o : Option ℕ). if are_same (Some v) o then changed_before value turn else Some turn) (ap value (sym one) ∙ next)
+    ∙ noted_by (v == w) turn found before (changed_before value turn) is
+
+-- the value of a part of the state
+pub part_before : (part : State → ℕ) (steps : List Step) (turn : ℕ) (s : State) → state_before steps turn ≡ Some s → value_before part steps turn ≡ Some (part s)
+part_before part steps turn s is = ap (option_map part) is
+
+-- nothing before the first turn
+or_none : (found : Option ℕ) → or_before found None ≡ found
+or_none None = refl
+or_none (Some turn) = refl
+
+pub from_start : (value : ℕ → Option ℕ) (end : ℕ) (found : Option ℕ) (from : ℕ) → from ≡ 0 → changed_before value end ≡ or_before found (changed_before value from) → changed_before value end ≡ found
+from_start value end found from start is = is ∙ ap (λ (n : ℕ). or_before found (changed_before value n)) start ∙ or_none found
+
+-- ---- of each register
+
+register_at : (o : Option State) (regs : List ℕ) (reg : ℕ) → option_map (λ (s : State). s.core.regs) o ≡ Some regs → option_map (register reg) o ≡ Some (slice_index regs reg)
+register_at None regs reg is = absurd cc
+register_at (Some s) regs reg is = ap Some (ap (λ (l : List ℕ). slice_index l reg) (same_Some s.core.regs regs is))
+
+-- with one more turn
+pub each_more : (steps : List Step) (turn : ℕ) (before after : List ℕ) (old new : List (Option ℕ))
+    → option_map (λ (s : State). s.core.regs) (state_before steps turn) ≡ Some before
+    → option_map (λ (s : State). s.core.regs) (state_before steps (turn + 1)) ≡ Some after
+    → ((reg : ℕ) → reg < 32 → slice_get new reg ≡ option_map (last_noted (slice_index before reg) (slice_index after reg) turn) (slice_get old reg))
+    → ((reg : ℕ) → reg < 32 → slice_get old reg ≡ Some (changed_before (value_before (register reg) steps) turn))
+    → (reg : ℕ) → reg < 32 → slice_get new reg ≡ Some (changed_before (value_before (register reg) steps) (turn + 1))
+each_more steps turn before after old new now next noted each reg below =
+    let value = value_before (register reg) steps in
+    let last = changed_before value turn in
+    noted reg below
+    ∙ ap (option_map (last_noted (slice_index before reg) (slice_index after reg) turn)) (each reg below)
+    ∙ ap Some (sym (one_more value turn (slice_index before reg) (slice_index after reg) last None (register_at (state_before steps turn) before reg now) (register_at (state_before steps (turn + 1)) after reg next) (sym (or_none last))
+    ∙ or_none (last_noted (slice_index before reg) (slice_index after reg) turn last)))
+
+-- nothing is noted at first
+pub copy_at : {X : Type 0} (x : X) (n reg : ℕ) → reg < n → slice_get (replicate n x) reg ≡ Some x
+copy_at x zero reg below = absurd (omega arith)
+copy_at x (suc n) zero below = refl
+copy_at x (suc n) (suc reg) below = copy_at x n reg (omega arith)
+
+-- the registers of a stand's machine
+pub regs_at : (s : ScriptOf) (plan : PlanOf) (turn : ℕ) (stand : Stand) (m : Held) (core : Core) → stand.flight.plan ≡ plan → turn_of stand ≡ turn
+    → state_before (steps_by_script stand.flight.plan s) (turn_of stand) ≡ Some (state_of m) → core ≡ m.core
+    → option_map (λ (s : State). s.core.regs) (state_before (steps_by_script plan s) turn) ≡ Some core.regs
+regs_at s plan turn stand m core of_plan at is same =
+    ap (λ (p : PlanOf). option_map (λ (s : State). s.core.regs) (state_before (steps_by_script p s) turn)) (sym of_plan)
+    ∙ ap (λ (n : ℕ). option_map (λ (s : State). s.core.regs) (state_before (steps_by_script stand.flight.plan s) n)) (sym at)
+    ∙ ap (option_map (λ (s : State). s.core.regs)) is
+    ∙ ap (λ (c : Core). Some c.regs) (sym same)
+
+-- numbers one by one
+each_from : {X : Type 0} (xs : List X) (f : ℕ → X) (from n : ℕ) → length xs ≡ n → ((k : ℕ) → k < n → slice_get xs k ≡ Some (f (from + k))) → xs ≡ map f (range_with_len from n)
+each_from [] f from zero count each = refl
+each_from [] f from (suc n) count each = absurd (omega arith)
+each_from (x ∷ xs) f from zero count each = absurd (omega arith)
+each_from (x ∷ xs) f from (suc n) count each =
+    let first : x ≡ f (from + 0) = same_Some x (f (from + 0)) (each 0 (omega arith)) in
+    let start : from + 0 ≡ from = omega arith in
+    let rest : xs ≡ map f (range_with_len (from + 1) n) =
+    each_from xs f (from + 1) n (omega arith) (λ k below.
+    let next : from + suc k ≡ from + 1 + k = omega arith in
+    each (suc k) (omega arith) ∙ ap (λ (i : ℕ). Some (f i)) next) in
+    ap (λ y. y ∷ xs) (first ∙ ap f start) ∙ ap (λ ys. f from ∷ ys) rest
+
+pub each_is : {X : Type 0} (xs : List X) (f : ℕ → X) (n : ℕ) → length xs ≡ n → ((k : ℕ) → k < n → slice_get xs k ≡ Some (f k)) → xs ≡ map f (range_with_len 0 n)
+each_is xs f n count each = each_from xs f 0 n count (λ k below. let same : k ≡ 0 + k = omega arith in each k below ∙ ap (λ (i : ℕ). Some (f i)) same)

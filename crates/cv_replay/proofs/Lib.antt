@@ -1,0 +1,6 @@
+pub mod HonestRows
+pub mod HonestRun
+pub mod LastChange
+pub mod Leaving
+pub mod NextEntry
+pub mod NextTurn

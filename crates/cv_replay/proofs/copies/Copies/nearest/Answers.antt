@@ -1,0 +1,4 @@
+use Rattle.cv_replay.proofs.copies.Copies.nearest.Goals as goal
+
+pub returns-else-turn-here : goal.returns-else-turn-here
+returns-else-turn-here c = λ script at copies. c.last_at-copy.ensures c.args.now.now.flight.plan script copies

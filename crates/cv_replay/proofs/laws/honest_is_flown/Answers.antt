@@ -1,0 +1,5 @@
+use Rattle.cv_replay.proofs.HonestRun.{honest_flown}
+use Rattle.cv_replay.proofs.laws.honest_is_flown.Goals as goal
+
+pub returns : goal.returns
+returns c = honest_flown
