@@ -11,5 +11,6 @@ mod whole;
 
 pub use drill::drill_text;
 pub use entries::entry_line;
+pub use lists::{Row, list_text};
 pub use texts::bytes_text;
 pub use whole::report;

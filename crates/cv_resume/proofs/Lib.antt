@@ -4,4 +4,5 @@ pub mod Lines
 pub mod OneAnswer
 pub mod Pieces
 pub mod Rounds
+pub mod Running
 pub mod WholeRounds

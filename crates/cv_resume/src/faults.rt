@@ -1,4 +1,6 @@
 use cv_base::NoMemory;
+use cv_keep::KeepFail;
+use std::fmt;
 
 /// Why kept rounds are refused (docs/FORMATS.md, "Kept rounds"), in the order in which they are
 /// judged. `restore` tells the first three, `resume` the last.
@@ -34,5 +36,60 @@ impl From<NoMemory> for RestoreFail {
 
     fn from(_error: NoMemory) -> RestoreFail {
         RestoreFail::NoMemory
+    }
+}
+
+/// Why the rounds of a plan were not run to their end.
+#[derive(Clone, Copy, Debug, PartialEq, Eq)]
+pub enum KeptFail {
+    /// The pieces on the disk are refused.
+    Refused(KeptFault),
+    /// The disk failed, and has counted the fault. It has to be recovered again.
+    DiskFault,
+    /// Memory was refused. The disk has to be recovered again.
+    NoMemory,
+}
+
+impl From<KeepFail> for KeptFail {
+    ghost use Rattle.std.specs.Prelude.{◌≡◌};
+    ghost use Rattle.cv_resume.specs.Failing.{from_keep};
+
+    ghost from_gives = { λ e r. r ≡ from_keep e };
+
+    fn from(error: KeepFail) -> KeptFail {
+        match error {
+            KeepFail::DiskFault => KeptFail::DiskFault,
+            KeepFail::NoMemory => KeptFail::NoMemory,
+        }
+    }
+}
+
+impl From<RestoreFail> for KeptFail {
+    ghost use Rattle.std.specs.Prelude.{◌≡◌};
+    ghost use Rattle.cv_resume.specs.Failing.{from_restore};
+
+    ghost from_gives = { λ e r. r ≡ from_restore e };
+
+    fn from(error: RestoreFail) -> KeptFail {
+        match error {
+            RestoreFail::Refused(fault) => KeptFail::Refused(fault),
+            RestoreFail::NoMemory => KeptFail::NoMemory,
+        }
+    }
+}
+
+impl fmt::Display for KeptFault {
+    ghost use Rattle.std.specs.Prelude.{Some};
+    ghost use Rattle.cv_resume.specs.KeptFaultText.{fault_text};
+
+    ghost output = { λ f. Some (fault_text f) };
+
+    fn fmt<W: fmt::Write>(&self, f: &mut fmt::Formatter<W>) -> fmt::Result {
+        match self {
+            KeptFault::BadPiece(number) => write!(f, "bad-piece {number}"),
+            KeptFault::Wrong(at, clause) => write!(f, "wrong {at} {clause}"),
+            KeptFault::Partial(round) => write!(f, "partial {round}"),
+            KeptFault::TooLong(round) => write!(f, "too-long {round}"),
+        }
     }
 }

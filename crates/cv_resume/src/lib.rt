@@ -5,6 +5,7 @@
 mod counting;
 mod faults;
 mod going_on;
+mod kept_run;
 mod laws;
 mod reading;
 mod restoring;
@@ -12,8 +13,9 @@ mod restoring;
 mod tests;
 mod writing;
 
-pub use faults::{KeptFault, RestoreFail};
+pub use faults::{KeptFail, KeptFault, RestoreFail};
 pub use going_on::{Resumed, resume};
+pub use kept_run::run_kept;
 pub use laws::{answers_are_one, rounds_join};
 pub use reading::entries_of;
 pub use restoring::{Restored, restore};
