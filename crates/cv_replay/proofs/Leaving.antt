@@ -8,7 +8,7 @@ use Rattle.cv_replay.specs.Left.{IsSomeLeft, left_of}
 use Rattle.cv_replay.specs.Script.{AreCounted}
 
 -- nothing of the first row is used
-pub none_used : (rows : List Adopted) → left_of rows 0 ≡ written rows
+pub none_used : (told : List Adopted) → left_of told 0 ≡ written told
 none_used [] = refl
 none_used (a ∷ rows) = rw sub-zero refl
 
