@@ -18,8 +18,7 @@ use Rattle.cv_exec.specs.Ending.{IsTold, ended_entry, live_told, plain_told}
 use Rattle.cv_exec.specs.LiveRun.{HaveTables, Span, adoptions_of, rows_of}
 use Rattle.cv_exec.specs.RecordOf.{IsHonestUnder}
 use Rattle.cv_exec.proofs.Adopting.{adoptions_are}
-use Rattle.cv_exec.proofs.Seeing.{learn_seen, live_unseen}
-use Rattle.cv_exec.proofs.Standing.{flight_is}
+use Rattle.cv_exec.proofs.Standing.{flight_is, learn_seen, live_unseen}
 use Rattle.cv_histories.specs.Flight.{Flight, begun, done_in, flight_entry, flown, has_ended, joined}
 use Rattle.cv_histories.specs.Honest.{IsHonest}
 use Rattle.cv_histories.specs.Legal.{NeverFalls}

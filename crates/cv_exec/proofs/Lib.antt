@@ -13,6 +13,5 @@ pub mod Passing
 pub mod Patching
 pub mod Planned
 pub mod Recipe
-pub mod Seeing
 pub mod Standing
 pub mod Turned

@@ -18,10 +18,6 @@ pub record Looks (image : Picture) (run : List Step) (left : ℕ) (s : State) (s
   pub whole : run ≡ done ++ steps_from image left s
   pub seen : StandsFor summary (observations done)
 
--- before the first turn
-pub looks_none : (image : Picture) (run : List Step) (left : ℕ) (s : State) (summary : SummaryOf) → run ≡ steps_from image left s → StandsFor summary [] → Looks image run left s summary
-looks_none image run left s summary is empty = record { done = []; whole = is; seen = empty }
-
 one_turn : (image : Picture) (left : ℕ) (s : State) (o : Outcome) → turn_of image s ≡ o → steps_from image (suc left) s ≡ stepped s o (steps_from image left)
 unfolding steps_from
 one_turn image left s o is = ap (λ (o : Outcome). stepped s o (steps_from image left)) is

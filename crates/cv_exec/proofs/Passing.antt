@@ -279,23 +279,6 @@ module _ (plan : PlanOf) (m new : Held) (g : Started) (p : Patched) (r : IsStart
   pub ready_now : wants_by p ≡ false → IsReady p
   ready_now still = keeps_here.marks.ready (keeps_here.marks.prepared still)
 
-  -- the machine stands in the same state
-  pub stays_so : state_of new ≡ state_of m → IsStarted plan new (Some p) p.spans.items g
-  stays_so same = record {
-    run = r.run;
-    flight = r.flight;
-    of_plan = r.of_plan;
-    worker = r.worker;
-    is = r.is;
-    number_is = r.number_is;
-    run_is = r.run_is;
-    used = r.used;
-    turns = r.turns;
-    leaves = r.leaves;
-    stands = subst (StandsBy plan new r.flight) (sym none) (record { on = goes_here.on; state = same ∙ goes_here.state });
-    keeps = r.keeps;
-  }
-
   reached : (turns : ℕ) (q : Patched) → Reaches plan p.spans.items g.run r.run (g.turns + turns) (state_of new) q → IsStarted plan new (Some q) p.spans.items (record g { turns = g.turns + turns })
   reached turns q there = record {
     run = r.run;

@@ -12,8 +12,7 @@ use Rattle.cv_base.specs.declared.entries.FiredRow.{FiredRow}
 use Rattle.cv_base.specs.declared.entries.TallyRow.{TallyRow}
 use Rattle.cv_base.specs.Points.{Range}
 use Rattle.cv_base.specs.Registers.{register, with_register}
-use Rattle.cv_exec.specs.LiveRun.{Span}
-use Rattle.cv_exec.specs.Keeping.{last_span, last_table, patched_state, patches_left, range_of, table_in}
+use Rattle.cv_exec.specs.Keeping.{patched_state, patches_left, range_of}
 use Rattle.cv_exec.specs.RunEnds.{end_sites}
 use Rattle.cv_histories.specs.Rows.{checks_in, firings_in}
 use Rattle.cv_machine.specs.Held.{Held, state_of}
@@ -107,9 +106,6 @@ turn_notes image table s = notes_by image s (patches_left image table s) ((patch
 pub turn_acted : (image : Picture) (table : Table) (s : State) → (patches_left image table s).acted ≡ true → (patched_turn image table s).outcome ≡ Next (patched_state image table s) true
 turn_acted image table s is = ap (λ (b : Bool). (turn_by image s (patches_left image table s) b).outcome) is
 
-pub turn_went_on : (image : Picture) (table : Table) (s : State) → (patches_left image table s).acted ≡ false → (patched_turn image table s).outcome ≡ turn_of image (patched_state image table s)
-turn_went_on image table s is = ap (λ (b : Bool). (turn_by image s (patches_left image table s) b).outcome) is
-
 ended_by : (image : Picture) (table : Table) (s : State) (end : End) (b : Bool) → (patches_left image table s).acted ≡ b → (patched_turn image table s).outcome ≡ Ended end → b ≡ false
 ended_by image table s end true is ends = let acts = turn_acted image table s is in cc
 ended_by image table s end false is ends = refl
@@ -126,10 +122,6 @@ end_sites_kept image table s end ends =
     (stays_at (is_point image) s.core.pc table s.core (ended_by image table s end left.acted refl ends))
 
 -- ---- what the code's patches leave
-
--- the table that is found last
-pub found_last : (spans items : List Span) (s view : Span) (table : Table) → table ≡ view.table → view ≡ s → Some s ≡ last_span items → items ≡ spans → table ≡ last_table spans
-found_last spans items s view table of_view is last same = of_view ∙ ap (λ (s : Span). s.table) is ∙ ap table_in last ∙ ap last_table same
 
 -- the patches at the core's pc, by the text's range
 pub left_is : (image : Picture) (text : Range) (table last : Table) (core : Core) (m : Held) → text ≡ range_of image → table ≡ last → core ≡ m.core → left_at text table core ≡ patches_left image last (state_of m)

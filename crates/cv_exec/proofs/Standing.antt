@@ -2,6 +2,7 @@
 use Rattle.std.proofs.Common.{◌≡◌, Bool, true, false, List, [], Option, Some, None, refl, sym, ap, ◌∙◌, subst}
 use Rattle.std.specs.Prelude.{◌&&◌, not, is_some, option_map, IsSome}
 use Rattle.cv_base.specs.declared.ends.End.{End}
+use Rattle.cv_base.specs.declared.entries.Observation.{Observation}
 use Rattle.cv_base.specs.declared.plan.Mode.{Mode}
 use Rattle.cv_base.specs.declared.plan.Mode.TheVariants.{Learn, Live}
 use Rattle.cv_base.specs.PlanOf.{PlanOf}
@@ -9,16 +10,18 @@ use Rattle.cv_exec.specs.declared.flying.Flying.{Flying}
 use Rattle.cv_exec.specs.declared.flying.Flying.TheVariants.{Nothing, Learning, Living}
 use Rattle.cv_exec.specs.declared.flying.Started.{Started}
 use Rattle.cv_exec.specs.declared.patched.Patched.{Patched}
-use Rattle.cv_exec.specs.ArenaOf.{Going, adopted_in, flies_so, flight_in, is_over, learns, wants}
+use Rattle.cv_exec.specs.ArenaOf.{Going, adopted_in, flies_so, flight_in, is_over, learns, seen_in, seen_so_far, wants}
 use Rattle.cv_exec.specs.InFlightStands.{GoesOn, IsStarted, Keeps, Marks, Stands, StandsBy, adopted_by, going_of, going_with, has_run_ended, learns_by, wants_in}
 use Rattle.cv_exec.specs.Keeping.{wants_by}
 use Rattle.cv_exec.specs.LiveRun.{Span, adoptions_of}
 use Rattle.cv_exec.proofs.Recipe.{and_false}
-use Rattle.cv_histories.specs.Flight.{Flight, at_entry, begun, flown, has_ended, may_enter}
+use Rattle.cv_histories.specs.Flight.{Flight, at_entry, begun, done_in, flown, has_ended, may_enter}
 use Rattle.cv_histories.specs.Runs.{Run}
 use Rattle.cv_histories.specs.Seen.{is_live}
 use Rattle.cv_machine.specs.Held.{Held, state_of}
 use Rattle.cv_runs.specs.BlockEntries.{is_entry}
+use Rattle.cv_runs.specs.Learned.{observations}
+use Rattle.cv_runs.specs.PatchedRun.{steps_of}
 
 -- by how it has ended
 over_by : (plan : PlanOf) (m : Held) (f : Flight) (end : Option End) → StandsBy plan m f end → has_ended plan f ≡ is_some end
@@ -112,3 +115,14 @@ pub adopted_is : (flying : Flying) → adopted_in (going_of flying) ≡ adopted_
 adopted_is Nothing = refl
 adopted_is (Learning g) = refl
 adopted_is (Living g p) = refl
+
+-- ---- what is seen of a run that has begun
+
+abbrev seen_by : Bool → Flight → List Observation
+seen_by live f = elim live [ true ↦ [] | false ↦ observations (steps_of (done_in f)) ]
+
+pub learn_seen : (plan : PlanOf) (m : Held) (g : Started) (r : IsStarted plan m None [] g) → seen_so_far plan (Some (going_with g [])) ≡ observations (steps_of (done_in r.flight))
+learn_seen plan m g r = ap seen_in (flight_is plan m None [] g r) ∙ ap (λ (mode : Mode). seen_by (is_live mode) r.flight) r.keeps
+
+pub live_unseen : (plan : PlanOf) (m : Held) (spans : List Span) (g : Started) (p : Patched) → IsStarted plan m (Some p) spans g → seen_so_far plan (Some (going_with g spans)) ≡ []
+live_unseen plan m spans g p r = ap seen_in (flight_is plan m (Some p) spans g r) ∙ ap (λ (mode : Mode). seen_by (is_live mode) r.flight) r.keeps.lives

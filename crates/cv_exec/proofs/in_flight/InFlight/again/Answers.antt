@@ -2,7 +2,7 @@ use Rattle.std.proofs.Common.{◌≡◌, ◌≤◌, ◌∙◌, true, Some, sym, 
 use Rattle.cv_exec.specs.ArenaOf.{wants}
 use Rattle.cv_exec.specs.InFlightStands.{IsStarted, going_with}
 use Rattle.cv_exec.proofs.Entering.{closed_again, goes_again, ready, room, stands_again}
-use Rattle.cv_exec.proofs.Seeing.{live_unseen}
+use Rattle.cv_exec.proofs.Standing.{live_unseen}
 use Rattle.cv_exec.proofs.in_flight.InFlight.again.Goals as goal
 
 pub again-requires-clause-room : goal.again-requires-clause-room

@@ -6,8 +6,7 @@ use Rattle.cv_exec.specs.InFlightStands.{IsStarted}
 use Rattle.cv_exec.specs.Keeping.{last_table}
 use Rattle.cv_exec.specs.Passing.{EndsBy}
 use Rattle.cv_exec.proofs.Passing.{ends_less, less_free, passes_on, ready_now, turns_left}
-use Rattle.cv_exec.proofs.Seeing.{live_unseen}
-use Rattle.cv_exec.proofs.Standing.{ends_none, over, stays}
+use Rattle.cv_exec.proofs.Standing.{ends_none, live_unseen, over, stays}
 use Rattle.cv_patch.specs.Indexing.{AreFree}
 use Rattle.cv_shadow.specs.declared.frames.Core.{Core}
 use Rattle.cv_exec.proofs.in_flight.InFlight.pass.Goals as goal
