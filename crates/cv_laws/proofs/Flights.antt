@@ -245,7 +245,7 @@ turned_flies plan versions f may flies =
 -- ---- under more versions, behind these
 
 -- tables of versions are also those of more versions
-adopted_grown : (versions more : List Table) (vs : List ℕ) (tables : List Table) → ((v : ℕ) (t : Table) → slice_get versions v ≡ Some t → slice_get more v ≡ Some t) → AreTables versions vs tables → AreTables more vs tables
+pub adopted_grown : (versions more : List Table) (vs : List ℕ) (tables : List Table) → ((v : ℕ) (t : Table) → slice_get versions v ≡ Some t → slice_get more v ≡ Some t) → AreTables versions vs tables → AreTables more vs tables
 adopted_grown versions more [] [] stay are = tt
 adopted_grown versions more [] (t ∷ tables) stay are = are
 adopted_grown versions more (v ∷ vs) [] stay are = are

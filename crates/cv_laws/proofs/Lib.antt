@@ -3,6 +3,7 @@ pub mod Each
 pub mod Flights
 pub mod Flown
 pub mod Goings
+pub mod HonestStays
 pub mod IdlePatches
 pub mod InOrder
 pub mod JoinedRows

@@ -1,5 +1,5 @@
 -- Laws on histories (docs/REPAIR.md, "Laws on histories").
-use Rattle.std.specs.Prelude.{◌≡◌, ◌≤◌, ℕ, true, List, [], reverse, Some, slice_get}
+use Rattle.std.specs.Prelude.{◌≡◌, ◌<◌, ◌≤◌, ℕ, true, List, [], reverse, Some, slice_get}
 use Rattle.std.specs.List.{AllByRecursion, fold}
 use Rattle.cv_base.specs.declared.entries.Adopted.{Adopted}
 use Rattle.cv_base.specs.declared.entries.Entry.{Entry}
@@ -7,11 +7,12 @@ use Rattle.cv_base.specs.PlanOf.{PlanOf, IsPlan}
 use Rattle.cv_base.specs.declared.plan.Mode.TheVariants.{Learn}
 use Rattle.cv_histories.specs.Flight.{Adoption, Flight, begun, done_in, flight_entry, flown, has_ended, joined}
 use Rattle.cv_histories.specs.Honest.{IsHonest, IsJoined}
-use Rattle.cv_histories.specs.Legal.{IsLegal, IsWhole, MayFollow}
+use Rattle.cv_histories.specs.Legal.{IsLegal, IsWhole, MayFollow, NeverFalls}
 use Rattle.cv_histories.specs.Rows.{written}
 use Rattle.cv_histories.specs.Runs.{Run, run_at}
 use Rattle.cv_histories.specs.Unfired.{SaysPlain, UnfiredArePlain}
 use Rattle.cv_histories.specs.Serial.{learn_entry, serial}
+use Rattle.cv_histories.specs.Versions.{ledger}
 use Rattle.cv_histories.specs.World.{Event, World, after_event, start_world}
 use Rattle.cv_laws.specs.InOrder.{AreByWorkerZero}
 use Rattle.cv_laws.specs.WorldStands.{Has, WorldStands}
@@ -78,6 +79,17 @@ UnfiredIsPlain = (plan : PlanOf) (versions : List Table) (e : Entry) → IsHones
 
 abbrev pub LegalIsPlain : Type 0
 LegalIsPlain = (plan : PlanOf) (past : List Entry) → IsLegal plan past → UnfiredArePlain plan past
+
+-- an entry is honest under the versions of a whole history; its worker is the plan's, and its adopted
+-- versions never fall
+pub record IsHonestIn (plan : PlanOf) (past : List Entry) (e : Entry) : Type 0 where
+  pub honest : IsHonest plan (ledger plan past).versions e
+  pub worker : e.worker < plan.workers
+  pub never_falls : NeverFalls e.adopted
+
+-- so is each entry of a legal history
+abbrev pub LegalIsHonest : Type 0
+LegalIsHonest = (plan : PlanOf) (past : List Entry) → IsLegal plan past → AllByRecursion (IsHonestIn plan past) past
 
 -- the history of the runs in order is legal and whole
 abbrev pub SerialIsLegal : Type 0

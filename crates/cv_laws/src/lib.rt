@@ -3,7 +3,7 @@
 //! (docs/REPAIR.md, "Laws on histories").
 #![tactic(auto)]
 
-ghost use Rattle.cv_laws.specs.Statements.{EndedMayFollow, EveryWorldIsLegal, FlownIsHonest, FlownIsOf, FlownIsPlain, LegalIsPlain, OneWorkerIsSerial, RowsAreJoined, SerialIsLegal, UnfiredIsPlain, WorkerZeroIsSerial, WorldsStand};
+ghost use Rattle.cv_laws.specs.Statements.{EndedMayFollow, EveryWorldIsLegal, FlownIsHonest, FlownIsOf, FlownIsPlain, LegalIsHonest, LegalIsPlain, OneWorkerIsSerial, RowsAreJoined, SerialIsLegal, UnfiredIsPlain, WorkerZeroIsSerial, WorldsStand};
 
 /// Every list of events leaves a legal history.
 pub fn every_world_is_legal()
@@ -49,6 +49,12 @@ pub fn unfired_is_plain()
 /// So does each such entry of a legal history.
 pub fn legal_is_plain()
     ensures { LegalIsPlain }
+{}
+
+/// Each entry of a legal history is honest under the versions of the whole history, its worker is the
+/// plan's, and its adopted versions never fall.
+pub fn legal_is_honest()
+    ensures { LegalIsHonest }
 {}
 
 /// The serial history of a plan is legal and whole.
