@@ -3,6 +3,7 @@ ghost use Rattle.std.specs.List.{flat_map};
 ghost use Rattle.cv_base.specs.InvariantText.{list_text};
 ghost use Rattle.cv_histories.specs.Texts.{held_text};
 
+use crate::texts::maker_text;
 use cv_base::{Adopted, FiredRow, NoMemory, TallyRow};
 use std::alloc::Global;
 
@@ -64,6 +65,17 @@ impl Row for FiredRow {
         let index = self.index;
         let count = self.count;
         Ok(format!(in alloc; "{case}.{index}:{count}")?)
+    }
+}
+
+/// A number, or `-` where there is none.
+impl Row for Option<u32> {
+    ghost use Rattle.cv_histories.specs.Report.{maker_text};
+
+    ghost written = { maker_text };
+
+    fn text(&self, alloc: Global) -> Result<String, NoMemory> {
+        maker_text(alloc, *self)
     }
 }
 
