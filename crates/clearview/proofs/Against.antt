@@ -1,32 +1,87 @@
 -- How a command ends that has no text to write.
-use Rattle.std.proofs.Common.{◌≡◌, ◌≢◌, ℕ, List, [], Option, Some, None, Ok, Err, IfSome, inl, inr, refl, sym, subst, map, string_bytes}
+use Rattle.std.proofs.Common.{◌≡◌, ◌≢◌, ℕ, false, List, [], Option, Some, None, Ok, Err, IfSome, IsTrue, inl, inr, refl, sym, subst, map, string_bytes}
 use Rattle.std.specs.Prelude.{◌⊎◌}
 use Rattle.clearview.specs.declared.cause.Cause.{Cause}
 use Rattle.clearview.specs.declared.cause.Cause.TheVariants as cause
-use Rattle.clearview.specs.Causes.{Completes, Ends, IsFree, Writes}
+use Rattle.clearview.specs.Causes.{Completes, Ends, IsFree, IsOfRounds, Writes, concerns}
 use Rattle.clearview.specs.Gives.{Gives}
 use Rattle.clearview.specs.Verdict.{IsFound, Verdict, files_for, plan_asked, verdict_by}
-use Rattle.clearview.specs.Words.{Command, command_of}
+use Rattle.clearview.specs.Words.{Asm, Audit, Check, Command, Drill, Infer, Kept, Listing, Plain, Reads, Replay, Run, command_of, keeps_book, keeps_rounds, reads_of}
 use Rattle.cv_edge.specs.Edge.{Held}
 use Rattle.cv_manager.specs.ManagerOf.{ManagerOf}
 use Rattle.std.specs.declared.alloc.Global.{Global}
 use Rattle.std.specs.declared.string.String.{String}
 
-ends_of : (v : Verdict) (c : Cause) → (v ≡ Err c) ⊎ IsFree c → c ≢ cause.Done → c ≢ cause.SinkFault → Ends v c
-ends_of v cause.Done why done sink = absurd (done refl)
-ends_of v cause.Usage why done sink = why
-ends_of v cause.FileMissing why done sink = why
-ends_of v cause.JobLong why done sink = why
-ends_of v (cause.JobRefused f) why done sink = why
-ends_of v cause.ImageLong why done sink = why
-ends_of v (cause.ImageRefused f) why done sink = why
-ends_of v cause.AsmLong why done sink = why
-ends_of v (cause.AsmRefused f) why done sink = why
-ends_of v cause.ReportLong why done sink = why
-ends_of v (cause.ReportRefused f) why done sink = why
-ends_of v cause.NoMemory why done sink = why
-ends_of v cause.StoreFault why done sink = why
-ends_of v cause.SinkFault why done sink = absurd (sink refl)
+-- ---- kept rounds
+
+-- a command that reads none is ended by no cause of theirs
+not_of_rounds : (r : Reads) (c : Cause) → r.rounds ≡ false → IsTrue (concerns r c) → IsOfRounds c → ⊥
+not_of_rounds r cause.Done none reads is = is
+not_of_rounds r cause.Usage none reads is = is
+not_of_rounds r cause.FileMissing none reads is = is
+not_of_rounds r cause.JobLong none reads is = is
+not_of_rounds r (cause.JobRefused f) none reads is = is
+not_of_rounds r cause.ImageLong none reads is = is
+not_of_rounds r (cause.ImageRefused f) none reads is = is
+not_of_rounds r cause.AsmLong none reads is = is
+not_of_rounds r (cause.AsmRefused f) none reads is = is
+not_of_rounds r cause.ReportLong none reads is = is
+not_of_rounds r (cause.ReportRefused f) none reads is = is
+not_of_rounds r cause.NoMemory none reads is = is
+not_of_rounds r cause.StoreFault none reads is = is
+not_of_rounds r cause.SinkFault none reads is = is
+not_of_rounds r cause.DiskFault none reads is = let never = none in absurd (cc reads)
+not_of_rounds r (cause.KeptRefused f) none reads is = let never = none in absurd (cc reads)
+
+reads_none : (asked : Option Command) → keeps_rounds asked ≡ false → (reads_of asked).rounds ≡ false
+reads_none None is = refl
+reads_none (Some (Plain image budget input)) is = refl
+reads_none (Some (Check job)) is = refl
+reads_none (Some (Infer job)) is = refl
+reads_none (Some (Run job)) is = refl
+reads_none (Some (Kept job)) is = absurd (cc is)
+reads_none (Some (Drill number runs)) is = refl
+reads_none (Some (Asm source)) is = refl
+reads_none (Some (Listing image)) is = refl
+reads_none (Some (Audit job report)) is = refl
+reads_none (Some (Replay job report run turn)) is = refl
+
+pub no_rounds : (asked : Option Command) (c : Cause) → keeps_rounds asked ≡ false → IsTrue (concerns (reads_of asked) c) → IsOfRounds c → ⊥
+no_rounds asked c none reads is = not_of_rounds (reads_of asked) c (reads_none asked none) reads is
+
+-- a command that posts no runs keeps none
+pub posts_keeps : (asked : Option Command) → keeps_book asked ≡ false → keeps_rounds asked ≡ false
+posts_keeps None is = refl
+posts_keeps (Some (Plain image budget input)) is = refl
+posts_keeps (Some (Check job)) is = refl
+posts_keeps (Some (Infer job)) is = refl
+posts_keeps (Some (Run job)) is = refl
+posts_keeps (Some (Kept job)) is = absurd (cc is)
+posts_keeps (Some (Drill number runs)) is = refl
+posts_keeps (Some (Asm source)) is = refl
+posts_keeps (Some (Listing image)) is = refl
+posts_keeps (Some (Audit job report)) is = refl
+posts_keeps (Some (Replay job report run turn)) is = refl
+
+-- ---- a cause against a text
+
+ends_of : (v : Verdict) (c : Cause) → (v ≡ Err c) ⊎ IsFree c → c ≢ cause.Done → c ≢ cause.SinkFault → (IsOfRounds c → ⊥) → Ends v c
+ends_of v cause.Done why done sink rounds = absurd (done refl)
+ends_of v cause.Usage why done sink rounds = why
+ends_of v cause.FileMissing why done sink rounds = why
+ends_of v cause.JobLong why done sink rounds = why
+ends_of v (cause.JobRefused f) why done sink rounds = why
+ends_of v cause.ImageLong why done sink rounds = why
+ends_of v (cause.ImageRefused f) why done sink rounds = why
+ends_of v cause.AsmLong why done sink rounds = why
+ends_of v (cause.AsmRefused f) why done sink rounds = why
+ends_of v cause.ReportLong why done sink rounds = why
+ends_of v (cause.ReportRefused f) why done sink rounds = why
+ends_of v cause.NoMemory why done sink rounds = why
+ends_of v cause.StoreFault why done sink rounds = why
+ends_of v cause.SinkFault why done sink rounds = absurd (sink refl)
+ends_of v cause.DiskFault why done sink rounds = absurd (rounds tt)
+ends_of v (cause.KeptRefused f) why done sink rounds = absurd (rounds tt)
 
 writes_of : (v : Verdict) (c : Cause) (now : Option (List ℕ)) → c ≢ cause.Done → c ≢ cause.SinkFault → Writes v c now now
 writes_of (Err e) c now done sink = refl
@@ -44,17 +99,19 @@ writes_of (Ok text) (cause.ReportRefused f) now done sink = refl
 writes_of (Ok text) cause.NoMemory now done sink = refl
 writes_of (Ok text) cause.StoreFault now done sink = refl
 writes_of (Ok text) cause.SinkFault now done sink = absurd (sink refl)
+writes_of (Ok text) cause.DiskFault now done sink = refl
+writes_of (Ok text) (cause.KeptRefused f) now done sink = refl
 
 complete_of : (v : Verdict) (c : Cause) (StoreRose SinkRose : Type 0) → (v ≡ Err c) ⊎ IsFree c → (c ≡ cause.StoreFault → StoreRose) → Completes v StoreRose SinkRose c
 complete_of v c StoreRose SinkRose (inl e) fault = λ text is store sink. absurd cc
-complete_of v c StoreRose SinkRose (inr (inl e)) fault = λ text is store sink. inr e
+complete_of v c StoreRose SinkRose (inr (inl e)) fault = λ text is store sink. inr (inl e)
 complete_of v c StoreRose SinkRose (inr (inr e)) fault = λ text is store sink. absurd (store (fault e))
 
 pub ends_against : (files : Option (List ℕ → Option (List ℕ))) (asked : Option Command) (c : Cause)
-    → IfSome files (λ file. Gives (verdict_by asked file [] None) (Err c)) → c ≢ cause.Done → c ≢ cause.SinkFault
+    → IfSome files (λ file. Gives (verdict_by asked file [] None) (Err c)) → c ≢ cause.Done → c ≢ cause.SinkFault → (IsOfRounds c → ⊥)
     → IfSome files (λ file. Ends (verdict_by asked file [] None) c)
-ends_against None asked c why done sink = tt
-ends_against (Some file) asked c why done sink = ends_of (verdict_by asked file [] None) c why done sink
+ends_against None asked c why done sink rounds = tt
+ends_against (Some file) asked c why done sink rounds = ends_of (verdict_by asked file [] None) c why done sink rounds
 
 writes_against : (files : Option (List ℕ → Option (List ℕ))) (asked : Option Command) (c : Cause) (now : Option (List ℕ))
     → c ≢ cause.Done → c ≢ cause.SinkFault

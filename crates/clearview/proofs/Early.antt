@@ -1,5 +1,5 @@
 -- The causes that come before a text stands, by what is read.
-use Rattle.std.proofs.Common.{◌≡◌, IsTrue, inl, inr, refl, sym, subst}
+use Rattle.std.proofs.Common.{IsTrue, inl, inr, refl, sym, subst}
 use Rattle.clearview.specs.declared.cause.Cause.{Cause}
 use Rattle.clearview.specs.declared.cause.Cause.TheVariants as cause
 use Rattle.clearview.specs.Causes.{concerns}
@@ -61,6 +61,8 @@ read_too (cause.ReportRefused f) is = is
 read_too cause.NoMemory is = refl
 read_too cause.StoreFault is = refl
 read_too cause.SinkFault is = refl
+read_too cause.DiskFault is = is
+read_too (cause.KeptRefused f) is = is
 
 pub image_of_plan : (c : Cause) → IsEarly an_image c → IsEarly a_plan c
 image_of_plan c early = record { reads = read_too c early.reads; not_done = early.not_done; not_usage = early.not_usage; not_sink = early.not_sink }
@@ -81,6 +83,8 @@ read_beside (cause.ReportRefused f) is = refl
 read_beside cause.NoMemory is = refl
 read_beside cause.StoreFault is = refl
 read_beside cause.SinkFault is = refl
+read_beside cause.DiskFault is = is
+read_beside (cause.KeptRefused f) is = is
 
 pub plan_of_report : (c : Cause) → IsEarly a_plan c → IsEarly a_report c
 plan_of_report c early = record { reads = read_beside c early.reads; not_done = early.not_done; not_usage = early.not_usage; not_sink = early.not_sink }

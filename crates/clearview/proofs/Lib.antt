@@ -5,5 +5,7 @@ pub mod Early
 pub mod Fetching
 pub mod Inferring
 pub mod Inputs
+pub mod Keeping
 pub mod Numbers
 pub mod Orders
+pub mod Visits

@@ -15,7 +15,7 @@ use Rattle.clearview.specs.declared.words.Order.TheVariants as order
 use Rattle.clearview.specs.Gives.{Gives, GivesText}
 use Rattle.clearview.specs.Verdict.{book_text, drilled, files_for, plan_asked, plan_in, told_files, verdict_by}
 use Rattle.clearview.specs.Views.{order_view}
-use Rattle.clearview.specs.Words.{Asm, Audit, Check, Drill, Infer, Listing, Plain, Run, audit_of, budget_of, command_of, drill_number, drill_of, drill_runs, input_of, is_name, judges_report, keeps_book, pair_command}
+use Rattle.clearview.specs.Words.{Asm, Audit, Check, Command, Drill, Infer, Kept, Listing, Plain, Replay, Run, audit_of, budget_of, command_of, drill_number, drill_of, drill_runs, few_digits, file_command, input_of, is_name, judges_report, keeps_book, keeps_rounds, pair_command, shows_turn}
 
 -- ---- words
 
@@ -78,15 +78,16 @@ pub audit_unasked : (name first second : List ℕ) → (bytes_eq name (codes "au
 audit_unasked name first second is = judges_three (bytes_eq name (codes "drill")) (bytes_eq name (codes "audit")) (is_name first && is_name second) first second is
 
 -- no command of one file judges a report
-judges_file : (named check infer run asm list : Bool) (file : List ℕ)
-    → judges_report (if named then None else if check then Some (Check file) else if infer then Some (Infer file) else if run then Some (Run file) else if asm then Some (Asm file) else if list then Some (Listing file) else None) ≡ false
-judges_file true check infer run asm list file = refl
-judges_file false true infer run asm list file = refl
-judges_file false false true run asm list file = refl
-judges_file false false false true asm list file = refl
-judges_file false false false false true list file = refl
-judges_file false false false false false true file = refl
-judges_file false false false false false false file = refl
+judges_file : (named check infer run kept asm list : Bool) (file : List ℕ)
+    → judges_report (if named then None else if check then Some (Check file) else if infer then Some (Infer file) else if run then Some (Run file) else if kept then Some (Kept file) else if asm then Some (Asm file) else if list then Some (Listing file) else None) ≡ false
+judges_file true check infer run kept asm list file = refl
+judges_file false true infer run kept asm list file = refl
+judges_file false false true run kept asm list file = refl
+judges_file false false false true kept asm list file = refl
+judges_file false false false false true asm list file = refl
+judges_file false false false false false true list file = refl
+judges_file false false false false false false true file = refl
+judges_file false false false false false false false file = refl
 
 -- nor does a plain run
 judges_plain : (plain named : Bool) (image input : List ℕ) (budget : Option ℕ) (bytes : Option (List ℕ))
@@ -97,17 +98,45 @@ judges_plain true true image input None bytes = refl
 judges_plain true true image input (Some n) None = refl
 judges_plain true true image input (Some n) (Some b) = refl
 
--- words that are not three judge no report
-pub not_three : (words : List (String Global)) → length words ≢ 3 → judges_report (command_of (map string_bytes words)) ≡ false
-not_three [] three = refl
-not_three (a ∷ []) three = refl
-not_three (a ∷ b ∷ []) three =
+-- nor does what shows no turn, of five words
+abbrev five : Bool → Bool → List ℕ → List ℕ → Option ℕ → Option ℕ → Option Command
+five replay named job report run turn =
+    if replay then (if named then option_and_then (λ r. option_map (λ t. Replay job report r t) turn) run else None) else None
+
+judges_five : (replay named : Bool) (job report : List ℕ) (run turn : Option ℕ) → shows_turn (five replay named job report run turn) ≡ false → judges_report (five replay named job report run turn) ≡ false
+judges_five false named job report run turn none = refl
+judges_five true false job report run turn none = refl
+judges_five true true job report None turn none = refl
+judges_five true true job report (Some r) None none = refl
+judges_five true true job report (Some r) (Some t) none = absurd (cc none)
+
+posts_five : (replay named : Bool) (job report : List ℕ) (run turn : Option ℕ) → keeps_book (five replay named job report run turn) ≡ false
+posts_five false named job report run turn = refl
+posts_five true false job report run turn = refl
+posts_five true true job report None turn = refl
+posts_five true true job report (Some r) None = refl
+posts_five true true job report (Some r) (Some t) = refl
+
+no_five : (replay named : Bool) (job report : List ℕ) (run turn : Option ℕ) → judges_report (five replay named job report run turn) ≡ false → None ≡ five replay named job report run turn
+no_five false named job report run turn none = refl
+no_five true false job report run turn none = refl
+no_five true true job report None turn none = refl
+no_five true true job report (Some r) None none = refl
+no_five true true job report (Some r) (Some t) none = absurd (cc none)
+
+-- words that are not three, and show no turn, judge no report
+pub not_three : (words : List (String Global)) → length words ≢ 3 → shows_turn (command_of (map string_bytes words)) ≡ false → judges_report (command_of (map string_bytes words)) ≡ false
+not_three [] three turn = refl
+not_three (a ∷ []) three turn = refl
+not_three (a ∷ b ∷ []) three turn =
     let name = string_bytes a in
-    judges_file (not (is_name (string_bytes b))) (bytes_eq name (codes "check")) (bytes_eq name (codes "infer")) (bytes_eq name (codes "run")) (bytes_eq name (codes "asm")) (bytes_eq name (codes "list")) (string_bytes b)
-not_three (a ∷ b ∷ c ∷ []) three = absurd (three refl)
-not_three (a ∷ b ∷ c ∷ d ∷ []) three =
+    judges_file (not (is_name (string_bytes b))) (bytes_eq name (codes "check")) (bytes_eq name (codes "infer")) (bytes_eq name (codes "run")) (bytes_eq name (codes "kept")) (bytes_eq name (codes "asm")) (bytes_eq name (codes "list")) (string_bytes b)
+not_three (a ∷ b ∷ c ∷ []) three turn = absurd (three refl)
+not_three (a ∷ b ∷ c ∷ d ∷ []) three turn =
     judges_plain (bytes_eq (string_bytes a) (codes "plain")) (is_name (string_bytes b)) (string_bytes b) (string_bytes d) (budget_of (string_bytes c)) (input_of (string_bytes d))
-not_three (a ∷ b ∷ c ∷ d ∷ e ∷ rest) three = refl
+not_three (a ∷ b ∷ c ∷ d ∷ e ∷ []) three turn =
+    judges_five (bytes_eq (string_bytes a) (codes "replay")) (is_name (string_bytes b) && is_name (string_bytes c)) (string_bytes b) (string_bytes c) (few_digits 4 (string_bytes d)) (few_digits 8 (string_bytes e)) turn
+not_three (a ∷ b ∷ c ∷ d ∷ e ∷ f ∷ rest) three turn = refl
 
 -- words that are neither two nor three post no runs
 posts_plain : (plain named : Bool) (image input : List ℕ) (budget : Option ℕ) (bytes : Option (List ℕ))
@@ -125,7 +154,9 @@ posts_none (a ∷ b ∷ []) two three = absurd (two refl)
 posts_none (a ∷ b ∷ c ∷ []) two three = absurd (three refl)
 posts_none (a ∷ b ∷ c ∷ d ∷ []) two three =
     posts_plain (bytes_eq (string_bytes a) (codes "plain")) (is_name (string_bytes b)) (string_bytes b) (string_bytes d) (budget_of (string_bytes c)) (input_of (string_bytes d))
-posts_none (a ∷ b ∷ c ∷ d ∷ e ∷ rest) two three = refl
+posts_none (a ∷ b ∷ c ∷ d ∷ e ∷ []) two three =
+    posts_five (bytes_eq (string_bytes a) (codes "replay")) (is_name (string_bytes b) && is_name (string_bytes c)) (string_bytes b) (string_bytes c) (few_digits 4 (string_bytes d)) (few_digits 8 (string_bytes e))
+posts_none (a ∷ b ∷ c ∷ d ∷ e ∷ f ∷ rest) two three = refl
 
 -- nor is an audit what judges no report
 no_audit : (names : Bool) (job report : List ℕ) → judges_report (if names then Some (Audit job report) else None) ≡ false → None ≡ (if names then Some (Audit job report) else None)
@@ -147,7 +178,93 @@ no_others (a ∷ []) two four book report = refl
 no_others (a ∷ b ∷ []) two four book report = absurd (two refl)
 no_others (a ∷ b ∷ c ∷ []) two four book report = no_three (bytes_eq (string_bytes a) (codes "drill")) (bytes_eq (string_bytes a) (codes "audit")) (string_bytes b) (string_bytes c) book report
 no_others (a ∷ b ∷ c ∷ d ∷ []) two four book report = absurd (four refl)
-no_others (a ∷ b ∷ c ∷ d ∷ e ∷ rest) two four book report = refl
+no_others (a ∷ b ∷ c ∷ d ∷ e ∷ []) two four book report =
+    no_five (bytes_eq (string_bytes a) (codes "replay")) (is_name (string_bytes b) && is_name (string_bytes c)) (string_bytes b) (string_bytes c) (few_digits 4 (string_bytes d)) (few_digits 8 (string_bytes e)) report
+no_others (a ∷ b ∷ c ∷ d ∷ e ∷ f ∷ rest) two four book report = refl
+
+-- ---- a turn of a run
+
+-- what judges no report shows no turn
+judges_shows : (asked : Option Command) → judges_report asked ≡ false → shows_turn asked ≡ false
+judges_shows None none = refl
+judges_shows (Some (Plain image budget input)) none = refl
+judges_shows (Some (Check job)) none = refl
+judges_shows (Some (Infer job)) none = refl
+judges_shows (Some (Run job)) none = refl
+judges_shows (Some (Kept job)) none = refl
+judges_shows (Some (Drill number runs)) none = refl
+judges_shows (Some (Asm source)) none = refl
+judges_shows (Some (Listing image)) none = refl
+judges_shows (Some (Audit job report)) none = refl
+judges_shows (Some (Replay job report run turn)) none = absurd (cc none)
+
+shows_three : (drills audits names : Bool) (first second : List ℕ) → shows_turn (if drills then drill_of first second else if audits then (if names then Some (Audit first second) else None) else None) ≡ false
+shows_three true audits names first second = judges_shows (drill_of first second) (drill_judges first second)
+shows_three false true true first second = refl
+shows_three false true false first second = refl
+shows_three false false names first second = refl
+
+-- words that are not five show none
+pub turn_none : (words : List (String Global)) → length words ≢ 5 → shows_turn (command_of (map string_bytes words)) ≡ false
+turn_none [] five = refl
+turn_none (a ∷ []) five = refl
+turn_none (a ∷ b ∷ []) five =
+    let name = string_bytes a in
+    judges_shows (file_command name (string_bytes b))
+    (judges_file (not (is_name (string_bytes b))) (bytes_eq name (codes "check")) (bytes_eq name (codes "infer")) (bytes_eq name (codes "run")) (bytes_eq name (codes "kept")) (bytes_eq name (codes "asm")) (bytes_eq name (codes "list")) (string_bytes b))
+turn_none (a ∷ b ∷ c ∷ []) five =
+    shows_three (bytes_eq (string_bytes a) (codes "drill")) (bytes_eq (string_bytes a) (codes "audit")) (is_name (string_bytes b) && is_name (string_bytes c)) (string_bytes b) (string_bytes c)
+turn_none (a ∷ b ∷ c ∷ d ∷ []) five =
+    judges_shows (command_of (string_bytes a ∷ string_bytes b ∷ string_bytes c ∷ string_bytes d ∷ []))
+    (judges_plain (bytes_eq (string_bytes a) (codes "plain")) (is_name (string_bytes b)) (string_bytes b) (string_bytes d) (budget_of (string_bytes c)) (input_of (string_bytes d)))
+turn_none (a ∷ b ∷ c ∷ d ∷ e ∷ []) five = absurd (five refl)
+turn_none (a ∷ b ∷ c ∷ d ∷ e ∷ f ∷ rest) five = refl
+
+-- ---- kept rounds
+
+-- words that are not two keep no rounds
+drill_rounds : (number runs : List ℕ) → keeps_rounds (drill_of number runs) ≡ false
+drill_rounds number runs =
+    elim (drill_number number) as (λ (o : Option ℕ). keeps_rounds (option_and_then (λ n. option_map (λ count. Drill n count) (drill_runs runs)) o) ≡ false) [
+      | None ↦ refl
+      | Some n ↦ elim (drill_runs runs) as (λ (o : Option ℕ). keeps_rounds (option_map (λ count. Drill n count) o) ≡ false) [
+        | None ↦ refl
+        | Some count ↦ refl
+      ]
+    ]
+
+rounds_three : (drills audits names : Bool) (first second : List ℕ) → keeps_rounds (if drills then drill_of first second else if audits then (if names then Some (Audit first second) else None) else None) ≡ false
+rounds_three true audits names first second = drill_rounds first second
+rounds_three false true true first second = refl
+rounds_three false true false first second = refl
+rounds_three false false names first second = refl
+
+rounds_plain : (plain named : Bool) (image input : List ℕ) (budget : Option ℕ) (bytes : Option (List ℕ))
+    → keeps_rounds (if plain then (if named then option_and_then (λ n. option_map (λ (b : List ℕ). Plain image n b) bytes) budget else None) else None) ≡ false
+rounds_plain false named image input budget bytes = refl
+rounds_plain true false image input budget bytes = refl
+rounds_plain true true image input None bytes = refl
+rounds_plain true true image input (Some n) None = refl
+rounds_plain true true image input (Some n) (Some b) = refl
+
+rounds_five : (replay named : Bool) (job report : List ℕ) (run turn : Option ℕ) → keeps_rounds (five replay named job report run turn) ≡ false
+rounds_five false named job report run turn = refl
+rounds_five true false job report run turn = refl
+rounds_five true true job report None turn = refl
+rounds_five true true job report (Some r) None = refl
+rounds_five true true job report (Some r) (Some t) = refl
+
+pub rounds_none : (words : List (String Global)) → length words ≢ 2 → keeps_rounds (command_of (map string_bytes words)) ≡ false
+rounds_none [] two = refl
+rounds_none (a ∷ []) two = refl
+rounds_none (a ∷ b ∷ []) two = absurd (two refl)
+rounds_none (a ∷ b ∷ c ∷ []) two =
+    rounds_three (bytes_eq (string_bytes a) (codes "drill")) (bytes_eq (string_bytes a) (codes "audit")) (is_name (string_bytes b) && is_name (string_bytes c)) (string_bytes b) (string_bytes c)
+rounds_none (a ∷ b ∷ c ∷ d ∷ []) two =
+    rounds_plain (bytes_eq (string_bytes a) (codes "plain")) (is_name (string_bytes b)) (string_bytes b) (string_bytes d) (budget_of (string_bytes c)) (input_of (string_bytes d))
+rounds_none (a ∷ b ∷ c ∷ d ∷ e ∷ []) two =
+    rounds_five (bytes_eq (string_bytes a) (codes "replay")) (is_name (string_bytes b) && is_name (string_bytes c)) (string_bytes b) (string_bytes c) (few_digits 4 (string_bytes d)) (few_digits 8 (string_bytes e))
+rounds_none (a ∷ b ∷ c ∷ d ∷ e ∷ f ∷ rest) two = refl
 
 -- ---- texts
 

@@ -5,6 +5,7 @@ use Rattle.cv_asm.specs.FaultText as asm
 use Rattle.cv_base.specs.FaultText as image
 use Rattle.cv_job.specs.JobFaultText as job
 use Rattle.cv_journal.specs.JournalFaultText as journal
+use Rattle.cv_resume.specs.KeptFaultText as kept
 use Rattle.clearview.specs.declared.cause.Cause.{Cause}
 use Rattle.clearview.specs.declared.cause.Cause.TheVariants as cause
 
@@ -23,3 +24,5 @@ cause_text (cause.ReportRefused f) = codes "clearview: report refused: " ++ jour
 cause_text cause.NoMemory = codes "clearview: out of memory"
 cause_text cause.StoreFault = codes "clearview: cannot read"
 cause_text cause.SinkFault = codes "clearview: cannot write"
+cause_text cause.DiskFault = codes "clearview: disk failed"
+cause_text (cause.KeptRefused f) = codes "clearview: kept history refused: " ++ kept.fault_text f

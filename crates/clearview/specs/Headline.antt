@@ -1,12 +1,14 @@
 -- What a call has come to: one relation between the command that was asked for, what the call met
 -- outside, and what it answers (README, "The headline").
-use Rattle.std.specs.Prelude.{◌≡◌, ℕ, List, [], Option, Some, None, Ok, ◌⊎◌, ◌↔◌, IfSome, IsSome, IsTrue}
+use Rattle.std.specs.Prelude.{◌≡◌, ℕ, ◌+◌, List, [], Option, Some, None, Ok, ◌⊎◌, ◌↔◌, IfSome, IsSome, IsTrue}
 use Rattle.cv_base.specs.declared.entries.Entry.{Entry}
+use Rattle.cv_desk.specs.Openings.{IsUpTo}
 use Rattle.cv_edge.specs.Edge.{FetchesUpTo, HasCause, Held, Rose}
 use Rattle.cv_histories.specs.Unfired.{UnfiredArePlain}
 use Rattle.cv_histories.specs.Legal.{IsLegal, IsWhole}
 use Rattle.cv_histories.specs.Serial.{serial}
 use Rattle.cv_manager.specs.ManagerOf.{ManagerOf}
+use Rattle.cv_resume.specs.declared.faults.KeptFault.TheVariants as fault
 use Rattle.clearview.specs.declared.cause.Cause.{Cause}
 use Rattle.clearview.specs.declared.cause.Cause.TheVariants as cause
 use Rattle.clearview.specs.declared.judgement.Judgement.{Judgement}
@@ -23,6 +25,25 @@ pub record IsPosted (b : ManagerOf) : Type 0 where
   pub unfired : UnfiredArePlain b.plan b.past
   -- one worker has one way to go
   pub serial : b.plan.workers ≡ 1 → b.past ≡ serial b.plan
+
+-- so far one posted history of all runs of the rounds up to this one, and of no others
+pub record IsPostedUpTo (round : ℕ) (b : ManagerOf) : Type 0 where
+  pub legal : IsLegal b.plan b.past
+  pub up_to : IsUpTo b.plan (round + 1) b.past
+  pub unfired : UnfiredArePlain b.plan b.past
+
+-- the book of a call that ended so: of all runs, but where the entry lines of a round were too long to
+-- be kept
+abbrev pub IsBookOf : Cause → ManagerOf → Type 0
+IsBookOf (cause.KeptRefused (fault.TooLong round)) b = IsPostedUpTo round b
+IsBookOf _ b = IsPosted b
+
+-- whether a call that ended so has a book
+abbrev pub HasBook : Cause → Type 0
+HasBook cause.Done = Unit {0}
+HasBook cause.SinkFault = Unit {0}
+HasBook (cause.KeptRefused (fault.TooLong round)) = Unit {0}
+HasBook _ = ⊥
 
 -- the posted history; none where no book was made
 abbrev pub past_of : Option ManagerOf → List Entry
@@ -44,13 +65,13 @@ outside told store_faults written sink_faults = record { told = told; store_faul
 -- book of the runs that it posted, and what it found of a report that it judged
 pub record Comes (asked : Option Command) (before after : Outside) (ended : Cause) (made : Option ManagerOf) (found : Option Judgement) : Type 0 where
   -- the book is that of a posted history
-  pub posted : IfSome made IsPosted
+  pub posted : IfSome made (IsBookOf ended)
   -- what is written is the text of its plan and history
   pub report : IfSome made (λ b. Writes (Ok (book_text asked b.plan b.past)) ended before.written after.written)
   -- its plan is the one that the files hold, or that a drill's number makes
   pub plan : IfSome (files_for asked before.told) (λ file. IfSome made (λ b. plan_asked asked file ≡ Ok b.plan))
-  -- there is a book exactly where runs were posted and their text was made
-  pub book : IsSome made ↔ (IsTrue (keeps_book asked) × ((ended ≡ cause.Done) ⊎ (ended ≡ cause.SinkFault)))
+  -- there is a book exactly where runs were posted, and their text was made or a round was too long
+  pub book : IsSome made ↔ (IsTrue (keeps_book asked) × HasBook ended)
   -- what was found of a report is so, and is found exactly where it is written
   pub judged : IfSome (files_for asked before.told) (λ file. IfSome found (IsFound asked file))
   pub found_is : IsSome found ↔ (IsTrue (judges_report asked) × ((ended ≡ cause.Done) ⊎ (ended ≡ cause.SinkFault)))

@@ -6,6 +6,9 @@ pub mod Gives
 pub mod Headline
 pub mod Inferring
 pub mod Judged
+pub mod Replayed
+pub mod Rounds
+pub mod RoundsEnd
 pub mod Verdict
 pub mod Views
 pub mod Words

@@ -22,10 +22,11 @@ use Rattle.cv_histories.specs.OtherTexts.{drill_text, infer_text}
 use Rattle.cv_histories.specs.Report.{report}
 use Rattle.clearview.specs.CheckText.{check_text}
 use Rattle.clearview.specs.Judged.{IsJudgedIn, judged_text}
+use Rattle.clearview.specs.Replayed.{replayed_text}
 use Rattle.clearview.specs.declared.cause.Cause.{Cause}
 use Rattle.clearview.specs.declared.cause.Cause.TheVariants as cause
 use Rattle.clearview.specs.declared.judgement.Judgement.{Judgement}
-use Rattle.clearview.specs.Words.{Command, Plain, Check, Infer, Run, Drill, Asm, Listing, Audit}
+use Rattle.clearview.specs.Words.{Command, Plain, Check, Infer, Run, Kept, Drill, Asm, Listing, Audit, Replay}
 
 abbrev pub Verdict : Type 0
 Verdict = Result (List ℕ) Cause
@@ -88,12 +89,14 @@ drilled number runs = drill_plan number runs
 -- the plan of a command whose runs are posted to a book
 abbrev pub plan_asked : Option Command → (List ℕ → Option (List ℕ)) → Result PlanOf Cause
 plan_asked (Some (Run job)) file = plan_in file job
+plan_asked (Some (Kept job)) file = plan_in file job
 plan_asked (Some (Drill number runs)) file = Ok (drilled number runs)
 plan_asked _ file = Err cause.Usage
 
 -- what such a command writes of its plan and of the history of all runs
 abbrev pub book_text : Option Command → PlanOf → List Entry → List ℕ
 book_text (Some (Run job)) plan past = report plan past
+book_text (Some (Kept job)) plan past = report plan past
 book_text (Some (Drill number runs)) plan past = drill_text plan past
 book_text _ plan past = []
 
@@ -117,6 +120,7 @@ verdict_by (Some (Plain image budget input)) file past said =
 verdict_by (Some (Check job)) file past said = and_then (plan_in file job) (λ (plan : PlanOf). Ok (check_text plan))
 verdict_by (Some (Infer job)) file past said = and_then (plan_in file job) (λ (plan : PlanOf). Ok (infer_text plan))
 verdict_by (Some (Run job)) file past said = and_then (plan_in file job) (λ (plan : PlanOf). Ok (report plan past))
+verdict_by (Some (Kept job)) file past said = and_then (plan_in file job) (λ (plan : PlanOf). Ok (report plan past))
 verdict_by (Some (Drill number runs)) file past said = Ok (drill_text (drilled number runs) past)
 verdict_by (Some (Asm source)) file past said = and_then (source_in (file source)) (λ words. Ok (flat_map (spelled 4) words))
 verdict_by (Some (Listing image)) file past said =
@@ -124,8 +128,12 @@ verdict_by (Some (Listing image)) file past said =
 verdict_by (Some (Audit job name)) file past said =
     and_then (plan_in file job) (λ (plan : PlanOf).
     and_then (report_in (file name)) (λ (report : List ℕ × List Entry). Ok (judged_text plan report.0 report.1 said)))
+verdict_by (Some (Replay job name run turn)) file past said =
+    and_then (plan_in file job) (λ (plan : PlanOf).
+    and_then (report_in (file name)) (λ (report : List ℕ × List Entry). Ok (replayed_text plan report.1 run turn said)))
 
--- what an audit has said is so of the files
+-- what is said of a report is so of the files
 abbrev pub IsFound : Option Command → (List ℕ → Option (List ℕ)) → Judgement → Type 0
 IsFound (Some (Audit job name)) file said = IsJudgedIn (plan_in file job) (report_in (file name)) said
+IsFound (Some (Replay job name run turn)) file said = IsJudgedIn (plan_in file job) (report_in (file name)) said
 IsFound _ file said = ⊥

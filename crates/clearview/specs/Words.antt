@@ -11,10 +11,12 @@ pub data Command : Type 0 where
   Check : List ℕ → Command  -- job's name
   Infer : List ℕ → Command  -- job's name
   Run : List ℕ → Command  -- job's name
+  Kept : List ℕ → Command  -- job's name
   Drill : ℕ → ℕ → Command  -- number, runs
   Asm : List ℕ → Command  -- source's name
   Listing : List ℕ → Command  -- image's name
   Audit : List ℕ → List ℕ → Command  -- job's name, report's name
+  Replay : List ℕ → List ℕ → ℕ → ℕ → Command  -- job's name, report's name, run, turn
 
 -- a file's name: not empty, and does not begin with `-`
 abbrev pub is_name : List ℕ → Bool
@@ -54,6 +56,7 @@ file_command name file =
     else if bytes_eq name (codes "check") then Some (Check file)
     else if bytes_eq name (codes "infer") then Some (Infer file)
     else if bytes_eq name (codes "run") then Some (Run file)
+    else if bytes_eq name (codes "kept") then Some (Kept file)
     else if bytes_eq name (codes "asm") then Some (Asm file)
     else if bytes_eq name (codes "list") then Some (Listing file)
     else None
@@ -83,10 +86,22 @@ pair_command name first second =
     else if bytes_eq name (codes "audit") then audit_of first second
     else None
 
+-- the number that decimal digits write, at most so many
+abbrev pub few_digits : ℕ → List ℕ → Option ℕ
+few_digits most word = if within 1 most (length word) && list_all is_digit word then Some (number_from 0 word) else None
+
+-- a run has 1 to 4 digits, and a turn 1 to 8
+abbrev pub replay_of : List ℕ → List ℕ → List ℕ → List ℕ → Option Command
+replay_of job report run turn =
+    if is_name job && is_name report
+    then option_and_then (λ r. option_map (λ t. Replay job report r t) (few_digits 8 turn)) (few_digits 4 run)
+    else None
+
 abbrev pub command_of : List (List ℕ) → Option Command
 command_of (name ∷ file ∷ []) = file_command name file
 command_of (name ∷ first ∷ second ∷ []) = pair_command name first second
 command_of (name ∷ image ∷ budget ∷ input ∷ []) = if bytes_eq name (codes "plain") then plain_of image budget input else None
+command_of (name ∷ job ∷ report ∷ run ∷ turn ∷ []) = if bytes_eq name (codes "replay") then replay_of job report run turn else None
 command_of _ = None
 
 -- how many files a command names: those of its words, and after a job the job's image
@@ -96,32 +111,38 @@ files_named (Some (Plain image budget input)) = 1
 files_named (Some (Check job)) = 2
 files_named (Some (Infer job)) = 2
 files_named (Some (Run job)) = 2
+files_named (Some (Kept job)) = 2
 files_named (Some (Drill number runs)) = 0
 files_named (Some (Asm source)) = 1
 files_named (Some (Listing image)) = 1
 files_named (Some (Audit job report)) = 3
+files_named (Some (Replay job report run turn)) = 3
 
--- what a command reads: a job, an image, a source, a report
+-- what a command reads: a job, an image, a source, a report, kept rounds
 pub record Reads : Type 0 where
   pub job : Bool
   pub image : Bool
   pub source : Bool
   pub report : Bool
+  pub rounds : Bool
 
 abbrev pub nothing : Reads
-nothing = record { job = false; image = false; source = false; report = false }
+nothing = record { job = false; image = false; source = false; report = false; rounds = false }
 
 abbrev pub an_image : Reads
-an_image = record { job = false; image = true; source = false; report = false }
+an_image = record { job = false; image = true; source = false; report = false; rounds = false }
 
 abbrev pub a_plan : Reads
-a_plan = record { job = true; image = true; source = false; report = false }
+a_plan = record { job = true; image = true; source = false; report = false; rounds = false }
 
 abbrev pub a_source : Reads
-a_source = record { job = false; image = false; source = true; report = false }
+a_source = record { job = false; image = false; source = true; report = false; rounds = false }
 
 abbrev pub a_report : Reads
-a_report = record { job = true; image = true; source = false; report = true }
+a_report = record { job = true; image = true; source = false; report = true; rounds = false }
+
+abbrev pub kept_rounds : Reads
+kept_rounds = record { job = true; image = true; source = false; report = false; rounds = true }
 
 abbrev pub reads_of : Option Command → Reads
 reads_of None = nothing
@@ -129,10 +150,12 @@ reads_of (Some (Plain image budget input)) = an_image
 reads_of (Some (Check job)) = a_plan
 reads_of (Some (Infer job)) = a_plan
 reads_of (Some (Run job)) = a_plan
+reads_of (Some (Kept job)) = kept_rounds
 reads_of (Some (Drill number runs)) = nothing
 reads_of (Some (Asm source)) = a_source
 reads_of (Some (Listing image)) = an_image
 reads_of (Some (Audit job report)) = a_report
+reads_of (Some (Replay job report run turn)) = a_report
 
 -- an input has at most 65,536 bytes, and a drill 1 to 1,022 live runs
 abbrev pub IsShort : Command → Type 0
@@ -140,18 +163,32 @@ IsShort (Plain image budget input) = length input ≤ 65536
 IsShort (Check job) = Unit {0}
 IsShort (Infer job) = Unit {0}
 IsShort (Run job) = Unit {0}
+IsShort (Kept job) = Unit {0}
 IsShort (Drill number runs) = (1 ≤ runs) × (runs ≤ 1022)
 IsShort (Asm source) = Unit {0}
 IsShort (Listing image) = Unit {0}
 IsShort (Audit job report) = Unit {0}
+IsShort (Replay job report run turn) = Unit {0}
 
 -- whether the runs of a command are posted to a book
 abbrev pub keeps_book : Option Command → Bool
 keeps_book (Some (Run job)) = true
+keeps_book (Some (Kept job)) = true
 keeps_book (Some (Drill number runs)) = true
 keeps_book _ = false
 
 -- whether a command judges a report
 abbrev pub judges_report : Option Command → Bool
 judges_report (Some (Audit job report)) = true
+judges_report (Some (Replay job report run turn)) = true
 judges_report _ = false
+
+-- whether a command shows a turn of a run that it is told of by a report
+abbrev pub shows_turn : Option Command → Bool
+shows_turn (Some (Replay job report run turn)) = true
+shows_turn _ = false
+
+-- whether a command keeps the rounds of its runs on a disk
+abbrev pub keeps_rounds : Option Command → Bool
+keeps_rounds (Some (Kept job)) = true
+keeps_rounds _ = false

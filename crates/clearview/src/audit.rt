@@ -56,7 +56,7 @@ pub fn audit<S: Store, K: Sink>(
 
 /// What is found of a report, with its text, or the cause against it. It fetches the job, the image and
 /// the report.
-#[tactic(auto, using(crate::proofs::Auditing::audit_judged, crate::proofs::Auditing::audit_found, crate::proofs::Auditing::no_plan, crate::proofs::Auditing::no_report, crate::proofs::Auditing::fetches_thrice, crate::proofs::Auditing::fetches_fewer, crate::proofs::Early::plan_of_report))]
+#[tactic(auto, using(crate::proofs::Auditing::audit_judged, crate::proofs::Auditing::audit_found, crate::proofs::Auditing::audit_no_plan, crate::proofs::Auditing::audit_no_report, crate::proofs::Auditing::fetches_thrice, crate::proofs::Auditing::fetches_fewer, crate::proofs::Early::plan_of_report))]
 fn judged<S: Store>(alloc: Global, charge: &Charge<'_>, store: &mut S) -> Result<Told, Cause>
     ensures gives { IfSome (files_for (Some (charge_view charge.now)) (S.told store.old)) (λ file. Gives (verdict_by (Some (charge_view charge.now)) file [] (found_told result)) (text_told result)) }
     ensures found { IfSome (files_for (Some (charge_view charge.now)) (S.told store.old)) (λ file. IfSome (found_told result) (IsFound (Some (charge_view charge.now)) file)) }
@@ -91,7 +91,7 @@ fn judgement_of(alloc: Global, plan: Plan, journal: &Journal) -> Result<Told, No
 }
 
 /// What was found, with its text.
-fn told(found: Judgement, text: String) -> Told
+pub(crate) fn told(found: Judgement, text: String) -> Told
     ensures { result ≡ record { found = found; text = string_bytes text } }
 {
     let text = in_bytes(text);
@@ -99,7 +99,7 @@ fn told(found: Judgement, text: String) -> Told
 }
 
 /// What is written of a report with a wrong entry.
-fn wrong_text(alloc: Global, number: u32, clause: u32) -> Result<String, NoMemory>
+pub(crate) fn wrong_text(alloc: Global, number: u32, clause: u32) -> Result<String, NoMemory>
     ensures { IfOk result (λ s. string_bytes s ≡ codes "wrong entry " ++ decimal number ++ codes " clause " ++ decimal clause ++ codes "\n") }
 {
     Ok(format!(in alloc; "wrong entry {number} clause {clause}\n")?)

@@ -8,6 +8,7 @@ use cv_core::Book;
 use cv_edge::FetchFail;
 use cv_job::{JobFail, JobFault};
 use cv_journal::{JournalFail, JournalFault};
+use cv_resume::KeptFault;
 use std::fmt;
 
 /// How a call ended. Each has its status (docs/FORMATS.md, "Causes and statuses").
@@ -41,6 +42,10 @@ pub enum Cause {
     StoreFault,
     /// The sink failed; a beginning of the text may be written.
     SinkFault,
+    /// The disk that keeps rounds failed.
+    DiskFault,
+    /// The rounds on the disk are refused, or a round is too long to be kept.
+    KeptRefused(KeptFault),
 }
 
 impl Cause {
@@ -59,6 +64,8 @@ impl Cause {
             Cause::NoMemory => 5,
             Cause::StoreFault => 6,
             Cause::SinkFault => 7,
+            Cause::DiskFault => 10,
+            Cause::KeptRefused(_) => 11,
         }
     }
 }
@@ -95,6 +102,8 @@ impl fmt::Display for Cause {
             Cause::NoMemory => write!(f, "clearview: out of memory"),
             Cause::StoreFault => write!(f, "clearview: cannot read"),
             Cause::SinkFault => write!(f, "clearview: cannot write"),
+            Cause::DiskFault => write!(f, "clearview: disk failed"),
+            Cause::KeptRefused(fault) => write!(f, "clearview: kept history refused: {fault}"),
         }
     }
 }

@@ -1,21 +1,24 @@
-ghost use Rattle.std.specs.Prelude.{◌≡◌, ◌≤◌, Some, None, map, string_bytes, IfErr, IfOk, IfSome, IsErrOf};
+ghost use Rattle.std.specs.Prelude.{◌≡◌, ◌≤◌, Some, None, false, map, string_bytes, IfErr, IfOk, IfSome, IsErrOf};
 ghost use Rattle.cv_base.specs.PlanOf.{IsPlan};
 ghost use Rattle.cv_edge.specs.Edge.{FetchesUpTo, HasCause};
 ghost use Rattle.clearview.specs.Causes.{status_of};
 ghost use Rattle.clearview.specs.Gives.{Gives, GivesText, IsEarly, past_made, plan_made, text_made};
 ghost use Rattle.clearview.specs.Headline.{Comes, IsPosted, outside};
+ghost use Rattle.clearview.specs.Rounds.{Keeps};
 ghost use Rattle.clearview.specs.Verdict.{book_text, drilled, files_for, plan_asked, verdict_by};
 ghost use Rattle.clearview.specs.Views.{order_view};
-ghost use Rattle.clearview.specs.Words.{command_of, files_named, reads_of, IsShort};
+ghost use Rattle.clearview.specs.Words.{command_of, files_named, keeps_rounds, reads_of, IsShort};
 
 use crate::audit::audit;
 use crate::cause::{Cause, Finish};
 use crate::files::plan_of;
+use crate::kept::kept;
+use crate::replay::replay;
 use crate::tool::{tool, written};
-use crate::words::{Order, charge_in, order_in};
+use crate::words::{Order, charge_in, kept_in, order_in, visit_in};
 use cv_base::{NoMemory, Plan};
 use cv_core::Book;
-use cv_edge::{Gate, Sink, Store};
+use cv_edge::{Disk, Gate, Sink, Store};
 use cv_gen::drill_plan;
 use cv_laws::{legal_is_plain, one_worker_is_serial};
 use cv_manager::Manager;
@@ -27,12 +30,33 @@ use std::thread::Threads;
 
 /// Does the command that words are: fetches the files that it names, runs what it asks for, and writes
 /// its text whole (docs/FORMATS.md, "Causes and statuses"). The runs of a job are taken by as many
-/// instances as it has workers, side by side in threads, which pass the gate.
+/// instances as it has workers, side by side in threads, which pass the gate. The disk keeps the rounds
+/// of `kept`; no other command makes a call on it.
 ///
 /// Where a job is run, or a drill, the text is that of the posted history in the book, which has each
 /// run of the plan once, and is legal, however the instances interleave: README, "The headline". Where
 /// a report is judged, the text says what is found of it.
-pub fn clearview<R: Threads + Wait + Sync, S: Store, K: Sink, G: Gate>(
+pub fn clearview<R: Threads + Wait + Sync, S: Store, K: Sink, G: Gate, D: Disk>(
+    rt: &R,
+    alloc: Global,
+    words: &[String],
+    store: &mut S,
+    sink: &mut K,
+    gate: &G,
+    disk: &mut D,
+) -> Finish
+    ensures status { result.status ≡ status_of result.cause }
+    ensures comes { Comes (command_of (map string_bytes words.now)) (outside (S.told store.old) (S.faults store.old) (K.written sink.old) (K.faults sink.old)) (outside (S.told store.new) (S.faults store.new) (K.written sink.new) (K.faults sink.new)) result.cause result.book result.found }
+    ensures keeps { Keeps D.means (command_of (map string_bytes words.now)) (files_for (command_of (map string_bytes words.now)) (S.told store.old)) disk.old disk.new result.cause result.book }
+{
+    if let Some(job) = kept_in(words) {
+        return kept(rt, alloc, job, store, sink, gate, disk);
+    }
+    untouched(rt, alloc, words, store, sink, gate)
+}
+
+/// Does a command that keeps no rounds.
+fn untouched<R: Threads + Wait + Sync, S: Store, K: Sink, G: Gate>(
     rt: &R,
     alloc: Global,
     words: &[String],
@@ -40,11 +64,15 @@ pub fn clearview<R: Threads + Wait + Sync, S: Store, K: Sink, G: Gate>(
     sink: &mut K,
     gate: &G,
 ) -> Finish
+    requires { keeps_rounds (command_of (map string_bytes words.now)) ≡ false }
     ensures status { result.status ≡ status_of result.cause }
     ensures comes { Comes (command_of (map string_bytes words.now)) (outside (S.told store.old) (S.faults store.old) (K.written sink.old) (K.faults sink.old)) (outside (S.told store.new) (S.faults store.new) (K.written sink.new) (K.faults sink.new)) result.cause result.book result.found }
 {
     if let Some(order) = order_in(words) {
         return run(rt, alloc, &order, store, sink, gate);
+    }
+    if let Some(visit) = visit_in(words) {
+        return replay(alloc, &visit, store, sink);
     }
     match charge_in(words) {
         Some(charge) => audit(alloc, &charge, store, sink),

@@ -10,15 +10,17 @@ mod clearview;
 mod files;
 mod infer;
 mod judgement;
+mod kept;
 mod list;
 mod plain;
+mod replay;
 mod texts;
 mod tool;
 mod words;
 
 use cause::Cause;
 use clearview::clearview;
-use cv_edge::{FileStore, OpenGate, StdSink};
+use cv_edge::{FileDisk, FileStore, OpenGate, StdSink};
 use std::io::ErrorKind;
 use std::process::ExitCode;
 use std::{env, io};
@@ -29,7 +31,12 @@ fn main(rt: HostRuntime) -> ExitCode {
             let mut store = FileStore::over(&rt);
             let mut sink = StdSink::over(rt.stdout());
             let words = words.as_slice();
-            clearview(&rt, rt.alloc(), words, &mut store, &mut sink, &OpenGate).cause
+            let mut disk = FileDisk::over(&rt);
+            let alloc = rt.alloc();
+            clearview(
+                &rt, alloc, words, &mut store, &mut sink, &OpenGate, &mut disk,
+            )
+            .cause
         }
         Err(cause) => cause,
     };

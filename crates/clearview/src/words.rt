@@ -2,8 +2,8 @@ ghost use Rattle.std.specs.Prelude.{◌≡◌, ◌≤◌, ◌^◌, ◌&&◌, ℕ
 ghost use Rattle.std.specs.Char.{is_ascii_hexdigit};
 ghost use Rattle.std.specs.List.{list_all};
 ghost use Rattle.std.specs.Option.{option_map};
-ghost use Rattle.clearview.specs.Words.{command_of, Audit, IsShort, file_command, judges_report, pair_command, plain_of, is_digit, is_name, number_from, budget_of, input_of, drill_number, drill_of, drill_runs, keeps_book};
-ghost use Rattle.clearview.specs.Views.{charge_view, command_view, order_view};
+ghost use Rattle.clearview.specs.Words.{command_of, Audit, IsShort, Kept, few_digits, keeps_rounds, replay_of, shows_turn, file_command, judges_report, pair_command, plain_of, is_digit, is_name, number_from, budget_of, input_of, drill_number, drill_of, drill_runs, keeps_book};
+ghost use Rattle.clearview.specs.Views.{charge_view, command_view, order_view, visit_view};
 
 use cv_base::{Items, NoMemory};
 use hex::FromHexError;
@@ -63,9 +63,42 @@ pub struct Charge<'a> {
     pub report: &'a str,
 }
 
-/// What words ask for, where the runs are posted to a book; None where they ask for something else
-/// (docs/FORMATS.md, "Words").
+/// A turn of a run to be shown, where a report of a job tells of the run.
+#[derive(Clone, Copy, Debug)]
+pub struct Visit<'a> {
+    pub job: &'a str,
+    pub report: &'a str,
+    pub run: u32,
+    pub turn: u32,
+}
+
+/// The job whose rounds words ask to keep; None where they ask for something else (docs/FORMATS.md,
+/// "Words").
+pub fn kept_in(words: &[String]) -> Option<&str>
+    ensures some { IfSome result (λ job. command_of (map string_bytes words.now) ≡ Some (Kept job.now)) }
+    ensures none { result ≡ None → keeps_rounds (command_of (map string_bytes words.now)) ≡ false }
+{
+    match words {
+        [name, job] => kept_job(name.as_str(), job.as_str()),
+        _ => None,
+    }
+}
+
+/// The job whose rounds two words ask to keep.
+fn kept_job<'a>(name: &str, job: &'a str) -> Option<&'a str>
+    ensures some { IfSome result (λ j. file_command name.now job.now ≡ Some (Kept j.now)) }
+    ensures none { result ≡ None → keeps_rounds (file_command name.now job.now) ≡ false }
+{
+    if name == "kept" && is_name(job) {
+        return Some(job);
+    }
+    None
+}
+
+/// What words that keep no rounds ask for, where the runs are posted to a book; None where they ask
+/// for something else (docs/FORMATS.md, "Words").
 pub fn order_in(words: &[String]) -> Option<Order<'_>>
+    requires { keeps_rounds (command_of (map string_bytes words.now)) ≡ false }
     ensures some { IfSome result (λ o. command_of (map string_bytes words.now) ≡ Some (order_view o)) }
     ensures none { result ≡ None → keeps_book (command_of (map string_bytes words.now)) ≡ false }
     ensures short { IfSome result (λ o. IsShort (order_view o)) }
@@ -79,6 +112,7 @@ pub fn order_in(words: &[String]) -> Option<Order<'_>>
 
 /// The run that two words ask for.
 fn run_in<'a>(name: &str, job: &'a str) -> Option<Order<'a>>
+    requires { keeps_rounds (file_command name.now job.now) ≡ false }
     ensures some { IfSome result (λ o. file_command name.now job.now ≡ Some (order_view o)) }
     ensures none { result ≡ None → keeps_book (file_command name.now job.now) ≡ false }
     ensures short { IfSome result (λ o. IsShort (order_view o)) }
@@ -112,9 +146,10 @@ fn drill_in<'a>(number: &str, runs: &str) -> Option<Order<'a>>
     Some(Order::Drill { number, runs })
 }
 
-/// The report that words ask to judge, and its job; None where they ask for something else
-/// (docs/FORMATS.md, "Words").
+/// The report that words that show no turn ask to judge, and its job; None where they ask for
+/// something else (docs/FORMATS.md, "Words").
 pub fn charge_in(words: &[String]) -> Option<Charge<'_>>
+    requires { shows_turn (command_of (map string_bytes words.now)) ≡ false }
     ensures some { IfSome result (λ c. command_of (map string_bytes words.now) ≡ Some (charge_view c)) }
     ensures none { result ≡ None → judges_report (command_of (map string_bytes words.now)) ≡ false }
 {
@@ -144,6 +179,54 @@ fn is_charge(name: &str, job: &str, report: &str) -> bool
     let audits = name == "audit";
     let names = is_name(job) && is_name(report);
     audits && names
+}
+
+/// The turn that words ask to see, with its run and the report that tells of it; None where they ask
+/// for something else (docs/FORMATS.md, "Words").
+pub fn visit_in(words: &[String]) -> Option<Visit<'_>>
+    ensures some { IfSome result (λ v. command_of (map string_bytes words.now) ≡ Some (visit_view v)) }
+    ensures none { result ≡ None → shows_turn (command_of (map string_bytes words.now)) ≡ false }
+{
+    match words {
+        [name, job, report, run, turn] => {
+            if name.as_str() != "replay" {
+                return None;
+            }
+            visit_of(job.as_str(), report.as_str(), run.as_str(), turn.as_str())
+        }
+        _ => None,
+    }
+}
+
+/// The turn that four words behind `replay` ask to see.
+fn visit_of<'a>(job: &'a str, report: &'a str, run: &str, turn: &str) -> Option<Visit<'a>>
+    ensures { option_map visit_view result ≡ replay_of job.now report.now run.now turn.now }
+{
+    if !(is_name(job) && is_name(report)) {
+        return None;
+    }
+    let run = few_digits_in(run, 4)?;
+    let turn = few_digits_in(turn, 8)?;
+    Some(Visit {
+        job,
+        report,
+        run,
+        turn,
+    })
+}
+
+/// The number that decimal digits write, where there are at most so many.
+#[tactic(auto, using(crate::proofs::Numbers::few_is, crate::proofs::Numbers::few_small))]
+fn few_digits_in(word: &str, most: usize) -> Option<u32>
+    requires { most ≤ 8 }
+    ensures { result ≡ few_digits most word.now }
+{
+    let digits = word.as_bytes();
+    if digits.is_empty() || digits.len() > most {
+        return None;
+    }
+    let value = number_in(digits)?;
+    Some(value as u32)
 }
 
 /// The command that words are, which posts no runs to a book and judges no report; None where they are
