@@ -11,7 +11,7 @@ FILES = {
 }
 ACCEPTED = [['plain', 'p.bin', '1000', 'none'], ['plain', 'p.bin', '00001000', '0aF0'],
             ['plain', 'p.bin', '1000', '00' * 65_535],  # the longest that a shell can hand over
-            ['check', 'job'], ['infer', 'job'], ['run', 'job'], ['drill', '0', '0001'],
+            ['check', 'job'], ['infer', 'job'], ['run', 'job'], ['kept', 'job'], ['drill', '0', '0001'],
             ['asm', 'source'], ['list', 'p.bin']]
 REFUSED = [
     [], [''], ['Plain', 'p.bin', '1000', 'none'], ['plain'], ['plain', 'p.bin', '1000'],
@@ -23,7 +23,7 @@ REFUSED = [
     ['plain', 'p.bin', '1000', ''], ['plain', 'p.bin', '1000', '0'],
     ['plain', 'p.bin', '1000', '0g'], ['plain', 'p.bin', '1000', 'None'], ['plain', 'p.bin', '1000', '0' * 131_069],
     ['plain', b'p\xff', '1000', 'none'], [b'\xff'], ['run', b'\xed\xa0\x80'], ['plain'] * 10_000,
-    *[[command, *rest] for command in ('check', 'infer', 'run', 'asm', 'list')
+    *[[command, *rest] for command in ('check', 'infer', 'run', 'kept', 'asm', 'list')
       for rest in ([], [''], ['-job'], ['job', 'none'])],
     ['drill', ''], ['drill', '', '1'],
 ]
