@@ -4,9 +4,9 @@ example is written out. Of the runs of stored reports, which come from outside, 
 program in C, at most N turns each, many of them one behind the other: `since` is worked out again from the values
 before and after a turn; the first turn is the start; a run that failed ends at its end's pc, under as many frames as
 its sites say; where no repair fired, one instruction writes no more than its register, a turn without a jump goes to
-the next word, and runs of one input stand alike before each turn. A report that is not sound, or is refused, and
-files that are missing give what `audit` gives, N reports with one place changed as well. Words that are no command
-are refused. The last line is `N passed, M failed`; the status is 1 where a case failed."""
+the next word, a call links, and runs of one input stand alike before each turn. A report that is not sound, or is
+refused, and files that are missing give what `audit` gives, N reports with one place changed as well. Words that are
+no command are refused. The last line is `N passed, M failed`; the status is 1 where a case failed."""
 import argparse
 import json
 import os

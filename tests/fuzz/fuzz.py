@@ -41,8 +41,9 @@ PLAIN = re.compile(r'end (exit:\d+|budget|failure:[a-z-]+:[0-9A-F]{8}:[0-9A-F]{8
 CHECK = re.compile(r'job workers \d+ checks \d+ budget \d+ rounds \d+ runs \d+\ntext [0-9A-F]{8} \d+ entry [0-9A-F]{8}\n\Z')
 INFER = re.compile(r'((one-of|lower|less-than|sp-offset) .*\n)*learned \d+\n\Z')
 REPORT = re.compile(r'clearview report \d\n(.*\n)*end\n\Z')
-REPLAY = re.compile(r'run (\d+) turn (\d+) pc [0-9A-F]{8} frames \d+ frame-sp [0-9A-F]{8}\nregs [0-9A-F]{8}(,[0-9A-F]{8}){30}\n'
-                    r'since (-|\d+)(,(-|\d+)){30}\n\Z|wrong entry \d+ clause [1-7]\n\Z|missing run \d+\n\Z|no such (run|turn)\n\Z')
+REPLAY = re.compile(r'(?:run (\d+) turn (\d+) pc [0-9A-F]{8} frames \d+ frame-sp [0-9A-F]{8}\n'
+                    r'regs [0-9A-F]{8}(,[0-9A-F]{8}){30}\nsince (-|\d+)(,(-|\d+)){30}\n'
+                    r'|wrong entry \d+ clause [1-7]\n|missing run \d+\n|no such (run|turn)\n)\Z')
 
 
 def images():
@@ -205,7 +206,8 @@ def other_pieces(rng, pieces):
 
 def a_kept_file(rng, pieces):
     """A file of pieces, with any gates, or cut, or with something behind, or bent."""
-    content = b''.join(frame(piece, rng.choice([1, 1, 1, rng.randrange(256)])) for piece in other_pieces(rng, pieces)) + b'\0'
+    frames = [frame(piece, rng.choice([1, 1, 1, rng.randrange(256)])) for piece in other_pieces(rng, pieces)]
+    content = b''.join(frames) + b'\0'
     kind = rng.randrange(8)
     if kind == 0:
         return content[:rng.randrange(len(content))]
@@ -251,6 +253,11 @@ def job_of(words, files):
     return json.loads(files[words[1]].decode())
 
 
+def known_report(files, otherwise):
+    """The report of a stored job that was not changed."""
+    return next((each['report'] for each in STORED if all(files.get(name) == each[name] for name in ('job', 'image.bin'))), otherwise)
+
+
 def wrong_text(words, files, text):
     """What is wrong with a text that was written with status 0."""
     form = {'plain': PLAIN, 'check': CHECK, 'infer': INFER, 'run': REPORT, 'kept': REPORT, 'replay': REPLAY}.get(words[0])
@@ -264,8 +271,9 @@ def wrong_text(words, files, text):
     if words[0] == 'replay' and shape.group(1) and [*map(int, shape.group(1, 2))] != [*map(int, words[3:])]:
         return 'another run, or another turn'
     if words[0] in ('run', 'kept'):
-        known = [each['report'] for each in STORED if (each['job'], each['image.bin']) == (files['job'], files.get('image.bin'))]
-        return 'not the stored report' if known not in ([], [text]) else '; '.join(faults_of(text.decode(), job_of(words, files))[:3]) or None
+        if text != known_report(files, text):
+            return 'not the stored report'
+        return '; '.join(faults_of(text.decode(), job_of(words, files))[:3]) or None
     return None
 
 
@@ -316,7 +324,8 @@ def tried(program, seed):
         except ValueError as error:  # a word that no process can be given
             return seed, None if 'null' in str(error) else str(error)
         after = kept.read_bytes() if kept.exists() else None
-    fault = fault_of(words, files, done) or fault_again(words, files, done, again) or fault_kept(words, done, files.get(NAME), after)
+    fault = (fault_of(words, files, done) or fault_again(words, files, done, again)
+             or fault_kept(words, done, files.get(NAME), after))
     return seed, None if fault is None else f'{words}: {fault}: status {done.returncode}, {done.stderr[:200]!r}, {done.stdout[:200]!r}'
 
 
