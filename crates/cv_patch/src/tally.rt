@@ -13,6 +13,9 @@ use std::marker::Model;
 #[derive(Debug, Drop)]
 pub struct Tally {
     rows: Vec<TallyRow>,
+    /// The place of the row that is looked at first: candidates at one point, and at points that follow
+    /// each other, mostly have rows that follow each other.
+    next: usize,
 }
 
 impl Model for Tally {
@@ -35,6 +38,7 @@ impl Tally {
     {
         Tally {
             rows: Vec::new(alloc),
+            next: 0,
         }
     }
 
@@ -70,7 +74,10 @@ impl Tally {
         ensures { IfOk result (λ t. t ≡ self.now) }
     {
         let rows = Vec::from_slice(alloc, self.rows.as_slice())?;
-        Ok(Tally { rows })
+        Ok(Tally {
+            rows,
+            next: self.next,
+        })
     }
 
     /// Counts a check of a candidate, whose row has room for it. It takes no memory.
@@ -79,9 +86,23 @@ impl Tally {
         requires room { has_check_room case index self.old ≡ true }
         ensures { self.new ≡ with_check case index held self.old }
     {
-        let at = place(self.rows.as_slice(), case, index).unwrap();
+        let at = self.row_of(case, index);
         let row = self.rows[at];
         self.rows[at] = checked_once_more(row, held);
+        self.next = at + 1;
+    }
+
+    // the place of a candidate's row
+    fn row_of(&self, case: u32, index: u32) -> usize
+        requires { has_tally self.now case index ≡ true }
+        ensures { StandsAt (is_of case index) self.now result }
+    {
+        if let Some(row) = self.rows.get(self.next) {
+            if row.case == case && row.index == index {
+                return self.next;
+            }
+        }
+        place(self.rows.as_slice(), case, index).unwrap()
     }
 }
 
