@@ -187,9 +187,9 @@ fn copied(
 
 /// The three lines of the turn before which a replay stands, of the run of this number.
 #[tactic(auto, unfolding(crate::specs::Replayed::lines_of))]
-fn state_text(alloc: Global, run: u32, replay: &mut Replay) -> Result<String, NoMemory>
-    requires { run ≡ replay.old.entry.run }
-    ensures { IfOk result (λ s. string_bytes s ≡ lines_of replay.old) }
+fn state_text(alloc: Global, run: u32, replay: &Replay) -> Result<String, NoMemory>
+    requires { run ≡ replay.now.entry.run }
+    ensures { IfOk result (λ s. string_bytes s ≡ lines_of replay.now) }
 {
     let turn = turn_line(alloc, run, replay.turn(), replay.machine())?;
     let regs = regs_line(alloc, replay.machine())?;
@@ -242,10 +242,10 @@ fn values_of(alloc: Global, machine: &Machine) -> Result<Vec<u32>, NoMemory>
 }
 
 /// Since which turn each of them has its value.
-fn since_line(alloc: Global, replay: &mut Replay) -> Result<String, NoMemory>
-    ensures { IfOk result (λ s. string_bytes s ≡ since_line replay.old) }
+fn since_line(alloc: Global, replay: &Replay) -> Result<String, NoMemory>
+    ensures { IfOk result (λ s. string_bytes s ≡ since_line replay.now) }
 {
-    let turns = replay.regs_changed(alloc)?;
+    let turns = replay.regs_changed();
     let turns = list_text(alloc, &turns[1..])?;
     Ok(format!(in alloc; "since {turns}\n")?)
 }

@@ -4,7 +4,7 @@ use Rattle.std.proofs.lemmas.Option.{same_Some}
 use Rattle.std.specs.Prelude.{◌==◌, if◌then◌else◌, map, option_map, slice_get, slice_index}
 use Rattle.std.specs.List.{range_with_len}
 use Rattle.cv_base.specs.PlanOf.{PlanOf}
-use Rattle.cv_replay.specs.Parts.{last_noted, or_before}
+use Rattle.cv_replay.specs.Changed.{AreSince, cell_after, last_noted, or_before, turn_in}
 use Rattle.cv_replay.specs.ReplayOf.{register}
 use Rattle.cv_replay.specs.Said.{are_same, changed_before, state_before, value_before}
 use Rattle.cv_replay.specs.declared.stand.Stand.{Stand}
@@ -48,26 +48,46 @@ register_at : (o : Option State) (regs : List ℕ) (reg : ℕ) → option_map (�
 register_at None regs reg is = absurd cc
 register_at (Some s) regs reg is = ap Some (ap (λ (l : List ℕ). slice_index l reg) (same_Some s.core.regs regs is))
 
+cell_by : (same : Bool) (turn cell : ℕ) → turn_in (if same then cell else turn + 1) ≡ (if same then turn_in cell else Some turn)
+cell_by true turn cell = refl
+cell_by false turn cell = let one : turn + 1 ≡ suc turn = omega arith in ap turn_in one
+
+cells_after : (before after turn : ℕ) (cell : Option ℕ) → option_map turn_in (option_map (cell_after before after (turn + 1)) cell) ≡ option_map (last_noted before after turn) (option_map turn_in cell)
+cells_after before after turn None = refl
+cells_after before after turn (Some cell) = ap Some (cell_by (before == after) turn cell)
+
 -- with one more turn
-pub each_more : (steps : List Step) (turn : ℕ) (before after : List ℕ) (old new : List (Option ℕ))
+pub since_more : (steps : List Step) (turn : ℕ) (before after : List ℕ) (old new : List ℕ)
     → option_map (λ (s : State). s.core.regs) (state_before steps turn) ≡ Some before
     → option_map (λ (s : State). s.core.regs) (state_before steps (turn + 1)) ≡ Some after
-    → ((reg : ℕ) → reg < 32 → slice_get new reg ≡ option_map (last_noted (slice_index before reg) (slice_index after reg) turn) (slice_get old reg))
-    → ((reg : ℕ) → reg < 32 → slice_get old reg ≡ Some (changed_before (value_before (register reg) steps) turn))
-    → (reg : ℕ) → reg < 32 → slice_get new reg ≡ Some (changed_before (value_before (register reg) steps) (turn + 1))
-each_more steps turn before after old new now next noted each reg below =
-    let value = value_before (register reg) steps in
-    let last = changed_before value turn in
-    noted reg below
-    ∙ ap (option_map (last_noted (slice_index before reg) (slice_index after reg) turn)) (each reg below)
-    ∙ ap Some (sym (one_more value turn (slice_index before reg) (slice_index after reg) last None (register_at (state_before steps turn) before reg now) (register_at (state_before steps (turn + 1)) after reg next) (sym (or_none last))
-    ∙ or_none (last_noted (slice_index before reg) (slice_index after reg) turn last)))
+    → ((reg : ℕ) → reg < 32 → slice_get new reg ≡ option_map (cell_after (slice_index before reg) (slice_index after reg) (turn + 1)) (slice_get old reg))
+    → length new ≡ 32 → AreSince steps turn old → AreSince steps (turn + 1) new
+since_more steps turn before after old new now next noted all is = record {
+  all = all;
+  each = λ reg below.
+      let value = value_before (register reg) steps in
+      let last = changed_before value turn in
+      let v = slice_index before reg in
+      let w = slice_index after reg in
+      ap (option_map turn_in) (noted reg below)
+      ∙ cells_after v w turn (slice_get old reg)
+      ∙ ap (option_map (last_noted v w turn)) (is.each reg below)
+      ∙ ap Some (sym (one_more value turn v w last None (register_at (state_before steps turn) before reg now) (register_at (state_before steps (turn + 1)) after reg next) (sym (or_none last))
+      ∙ or_none (last_noted v w turn last)));
+}
 
 -- nothing is noted at first
 pub copy_at : {X : Type 0} (x : X) (n reg : ℕ) → reg < n → slice_get (replicate n x) reg ≡ Some x
 copy_at x zero reg below = absurd (omega arith)
 copy_at x (suc n) zero below = refl
 copy_at x (suc n) (suc reg) below = copy_at x n reg (omega arith)
+
+-- and so the cells say before the first turn
+pub none_since : (steps : List Step) → AreSince steps 0 (replicate 32 0)
+none_since steps = record {
+  all = refl;
+  each = λ reg below. ap (option_map turn_in) (copy_at {X = ℕ} 0 32 reg below);
+}
 
 -- the registers of a stand's machine
 pub regs_at : (s : ScriptOf) (plan : PlanOf) (turn : ℕ) (stand : Stand) (m : Held) (core : Core) → stand.flight.plan ≡ plan → turn_of stand ≡ turn

@@ -1,5 +1,5 @@
+pub mod Changed
 pub mod Left
-pub mod Parts
 pub mod ReplayOf
 pub mod Said
 pub mod Script

@@ -6,11 +6,13 @@ use Rattle.cv_base.specs.PlanOf.{PlanOf}
 use Rattle.cv_exec.specs.ArenaOf.{adopted_in, flight_in, turns_in}
 use Rattle.cv_exec.specs.LiveRun.{adoptions_of}
 use Rattle.cv_histories.specs.Flight.{Flight, entered_next}
+use Rattle.cv_replay.specs.Changed.{AreSince}
 use Rattle.cv_replay.specs.declared.copies.Copies.{Copies}
 use Rattle.cv_replay.specs.declared.stand.Stand.{Stand}
+use Rattle.cv_replay.specs.declared.walk.Walk.{Walk}
 use Rattle.cv_replay.specs.Left.{IsCursor, IsLeft, left_at}
 use Rattle.cv_replay.specs.ReplayOf.{ReplayOf}
-use Rattle.cv_replay.specs.Script.{IsScript, ScriptOf, adoptions, flight_at}
+use Rattle.cv_replay.specs.Script.{IsScript, ScriptOf, adoptions, flight_at, steps_by_script}
 
 abbrev pub turn_of : Stand → ℕ
 turn_of s = turns_in s.flight.going
@@ -37,18 +39,26 @@ pub record IsNear (script : ScriptOf) (s : Stand) : Type 0 where
   pub at : flight_at s.flight.plan script (turn_of s) ≡ Some (entered_next s.flight.plan (adoptions script) flight)
   pub behind : IsBehind script s flight.versions
 
--- copies of stands of a run, the first before its first turn
+abbrev pub plan_of : Walk → PlanOf
+plan_of w = w.stand.flight.plan
+
+-- a walk, with since when each register has its value
+pub record IsWalk (script : ScriptOf) (w : Walk) : Type 0 where
+  pub at : IsAt script w.stand
+  pub since : AreSince (steps_by_script (plan_of w) script) (turn_of w.stand) w.changes.cells
+
+-- copies of walks through a run, the first before its first turn
 pub record AreCopies (plan : PlanOf) (script : ScriptOf) (c : Copies) : Type 0 where
-  pub first_plan : c.first.flight.plan ≡ plan
-  pub first_at : IsAt script c.first
-  pub start : turn_of c.first ≡ 0
-  pub later : AllByRecursion (λ (s : Stand). (s.flight.plan ≡ plan) × IsAt script s) c.later.items
+  pub first_plan : plan_of c.first ≡ plan
+  pub first_at : IsWalk script c.first
+  pub start : turn_of c.first.stand ≡ 0
+  pub later : AllByRecursion (λ (w : Walk). (plan_of w ≡ plan) × IsWalk script w) c.later.items
 
 -- a replay as a whole
-pub record IsReplay (script : ScriptOf) (now : Stand) (copies : Copies) : Type 0 where
-  pub goes_by : IsScript now.flight.plan script
-  pub at : IsAt script now
-  pub copies_at : AreCopies now.flight.plan script copies
+pub record IsReplay (script : ScriptOf) (now : Walk) (copies : Copies) : Type 0 where
+  pub goes_by : IsScript (plan_of now) script
+  pub at : IsWalk script now
+  pub copies_at : AreCopies (plan_of now) script copies
 
-abbrev pub replay_of : ScriptOf → Stand → ReplayOf
-replay_of script now = record { plan = now.flight.plan; versions = script.versions; entry = script.entry; turn = turn_of now }
+abbrev pub replay_of : ScriptOf → Walk → ReplayOf
+replay_of script now = record { plan = plan_of now; versions = script.versions; entry = script.entry; turn = turn_of now.stand }

@@ -1,10 +1,10 @@
 ghost use Rattle.std.specs.Prelude.{◌≡◌, ◌≤◌, ◌<◌, [], IfOk, OnOk};
 ghost use Rattle.cv_base.specs.PlanOf.{PlanOf};
 ghost use Rattle.cv_replay.specs.Script.{IsScript, ScriptOf};
-ghost use Rattle.cv_replay.specs.Standing.{AreCopies, IsAt, turn_of};
+ghost use Rattle.cv_replay.specs.Standing.{AreCopies, IsWalk, plan_of, turn_of};
 
 use crate::script::Script;
-use crate::stand::Stand;
+use crate::walk::Walk;
 use cv_base::{Image, NoMemory};
 use std::alloc::Global;
 
@@ -20,12 +20,12 @@ const ROOM: u64 = 234_881_024;
 /// What the memory of a run takes, in bytes: 8 MiB.
 const MEMORY: u64 = 8_388_608;
 
-/// Copies of the run in flight, at rising turns, from which a seek goes on.
+/// Copies of a walk through the run, at rising turns, from which a seek goes on.
 #[derive(Drop)]
 pub(crate) struct Copies {
     /// Before the first turn.
-    pub(crate) first: Stand,
-    pub(crate) later: Vec<Stand>,
+    pub(crate) first: Walk,
+    pub(crate) later: Vec<Walk>,
     /// How many of these are kept at most, and how many turns lie between them at least.
     pub(crate) most: u32,
     pub(crate) spacing: u32,
@@ -33,7 +33,7 @@ pub(crate) struct Copies {
 
 impl Copies {
     /// The first alone.
-    pub(crate) fn make(alloc: Global, image: &Image, turns: u32, first: Stand) -> Copies
+    pub(crate) fn make(alloc: Global, image: &Image, turns: u32, first: Walk) -> Copies
         ensures first { result.first ≡ first }
         ensures later { result.later.items ≡ [] }
     {
@@ -46,27 +46,27 @@ impl Copies {
         }
     }
 
-    /// A stand at a turn, from the nearest of the copies and a stand of the same run. It leaves copies on
+    /// A walk to a turn, from the nearest of the copies and a walk through the same run. It leaves copies on
     /// its way.
     pub(crate) fn travel(
         &mut self,
         alloc: Global,
         script: &Script,
-        now: &Stand,
+        now: &Walk,
         to: u32,
-    ) -> Result<Stand, NoMemory>
-        requires script { IsScript now.now.flight.plan script.now }
-        requires at { IsAt script.now now.now }
-        requires copies { AreCopies now.now.flight.plan script.now self.old }
+    ) -> Result<Walk, NoMemory>
+        requires script { IsScript (plan_of now.now) script.now }
+        requires at { IsWalk script.now now.now }
+        requires copies { AreCopies (plan_of now.now) script.now self.old }
         requires to { to < script.now.entry.turns }
-        ensures at { IfOk result (λ s. IsAt script.now s) }
-        ensures turn { IfOk result (λ s. turn_of s ≡ to) }
-        ensures plan { IfOk result (λ s. s.flight.plan ≡ now.now.flight.plan) }
-        ensures copies { AreCopies now.now.flight.plan script.now self.new }
+        ensures at { IfOk result (λ w. IsWalk script.now w) }
+        ensures turn { IfOk result (λ w. turn_of w.stand ≡ to) }
+        ensures plan { IfOk result (λ w. plan_of w ≡ plan_of now.now) }
+        ensures copies { AreCopies (plan_of now.now) script.now self.new }
     {
-        let mut stand = self.copy_near(alloc, script, now, to)?;
-        self.walk(alloc, script, &mut stand, to)?;
-        Ok(stand)
+        let mut walk = self.copy_near(alloc, script, now, to)?;
+        self.advance(alloc, script, &mut walk, to)?;
+        Ok(walk)
     }
 
     /// A copy of the nearest.
@@ -74,23 +74,23 @@ impl Copies {
         &self,
         alloc: Global,
         script: &Script,
-        now: &Stand,
+        now: &Walk,
         turn: u32,
-    ) -> Result<Stand, NoMemory>
-        requires at { IsAt script.now now.now }
-        requires copies { AreCopies now.now.flight.plan script.now self.now }
-        ensures at { IfOk result (λ s. IsAt script.now s) }
-        ensures turn { IfOk result (λ s. turn_of s ≤ turn) }
-        ensures plan { IfOk result (λ s. s.flight.plan ≡ now.now.flight.plan) }
+    ) -> Result<Walk, NoMemory>
+        requires at { IsWalk script.now now.now }
+        requires copies { AreCopies (plan_of now.now) script.now self.now }
+        ensures at { IfOk result (λ w. IsWalk script.now w) }
+        ensures turn { IfOk result (λ w. turn_of w.stand ≤ turn) }
+        ensures plan { IfOk result (λ w. plan_of w ≡ plan_of now.now) }
     {
         let nearest = self.nearest(now, turn);
-        let stand = nearest.copied(alloc)?;
-        Ok(stand)
+        let walk = nearest.copied(alloc)?;
+        Ok(walk)
     }
 
-    /// The nearest of the copies and a stand of the same run, at a turn or before it.
-    fn nearest<'a>(&'a self, now: &'a Stand, turn: u32) -> &'a Stand
-        ensures { (script : ScriptOf) → IsAt script now.now → AreCopies now.now.flight.plan script self.now → (result.now.flight.plan ≡ now.now.flight.plan) × IsAt script result.now × (turn_of result.now ≤ turn) }
+    /// The nearest of the copies and a walk through the same run, at a turn or before it.
+    fn nearest<'a>(&'a self, now: &'a Walk, turn: u32) -> &'a Walk
+        ensures { (script : ScriptOf) → IsWalk script now.now → AreCopies (plan_of now.now) script self.now → (plan_of result.now ≡ plan_of now.now) × IsWalk script result.now × (turn_of result.now.stand ≤ turn) }
     {
         let copy = self.last_at(turn);
         let here = now.turn();
@@ -102,8 +102,8 @@ impl Copies {
     }
 
     /// The last copy that stands at a turn or before it.
-    fn last_at(&self, turn: u32) -> &Stand
-        ensures { (plan : PlanOf) (script : ScriptOf) → AreCopies plan script self.now → (result.now.flight.plan ≡ plan) × IsAt script result.now × (turn_of result.now ≤ turn) }
+    fn last_at(&self, turn: u32) -> &Walk
+        ensures { (plan : PlanOf) (script : ScriptOf) → AreCopies plan script self.now → (plan_of result.now ≡ plan) × IsWalk script result.now × (turn_of result.now.stand ≤ turn) }
     {
         for copy in self.later.iter().rev() {
             if copy.turn() <= turn {
@@ -113,40 +113,40 @@ impl Copies {
         &self.first
     }
 
-    /// Walks with a stand to a turn, and leaves copies on the way.
-    fn walk(
+    /// Walks on to a turn, and leaves copies on the way.
+    fn advance(
         &mut self,
         alloc: Global,
         script: &Script,
-        stand: &mut Stand,
+        walk: &mut Walk,
         to: u32,
     ) -> Result<(), NoMemory>
-        requires script { IsScript stand.old.flight.plan script.now }
-        requires at { IsAt script.now stand.old }
-        requires copies { AreCopies stand.old.flight.plan script.now self.old }
-        requires from { turn_of stand.old ≤ to }
+        requires script { IsScript (plan_of walk.old) script.now }
+        requires at { IsWalk script.now walk.old }
+        requires copies { AreCopies (plan_of walk.old) script.now self.old }
+        requires from { turn_of walk.old.stand ≤ to }
         requires to { to < script.now.entry.turns }
-        ensures at { OnOk result (IsAt script.now stand.new) }
-        ensures turn { OnOk result (turn_of stand.new ≡ to) }
-        ensures plan { OnOk result (stand.new.flight.plan ≡ stand.old.flight.plan) }
-        ensures copies { AreCopies stand.old.flight.plan script.now self.new }
+        ensures at { OnOk result (IsWalk script.now walk.new) }
+        ensures turn { OnOk result (turn_of walk.new.stand ≡ to) }
+        ensures plan { OnOk result (plan_of walk.new ≡ plan_of walk.old) }
+        ensures copies { AreCopies (plan_of walk.old) script.now self.new }
     {
-        while stand.turn() < to {
-            stand.forward(script)?;
-            self.leave(alloc, stand);
+        while walk.turn() < to {
+            walk.forward(script)?;
+            self.leave(alloc, walk);
         }
         Ok(())
     }
 
-    /// Leaves a copy of a stand where the last copy is far enough behind it and memory allows.
-    fn leave(&mut self, alloc: Global, stand: &Stand)
-        ensures { (plan : PlanOf) (script : ScriptOf) → AreCopies plan script self.old → stand.now.flight.plan ≡ plan → IsAt script stand.now → AreCopies plan script self.new }
+    /// Leaves a copy of a walk where the last copy is far enough behind it and memory allows.
+    fn leave(&mut self, alloc: Global, walk: &Walk)
+        ensures { (plan : PlanOf) (script : ScriptOf) → AreCopies plan script self.old → plan_of walk.now ≡ plan → IsWalk script walk.now → AreCopies plan script self.new }
     {
         let is_full = self.later.len() >= self.most as usize;
-        if is_full || stand.turn().saturating_sub(self.last_turn()) < self.spacing {
+        if is_full || walk.turn().saturating_sub(self.last_turn()) < self.spacing {
             return;
         }
-        if let Ok(copy) = stand.copied(alloc) {
+        if let Ok(copy) = walk.copied(alloc) {
             self.keep(copy);
         }
     }
@@ -160,8 +160,8 @@ impl Copies {
     }
 
     /// Keeps a copy; one for which there is no memory is not kept.
-    fn keep(&mut self, copy: Stand)
-        ensures { (plan : PlanOf) (script : ScriptOf) → AreCopies plan script self.old → copy.flight.plan ≡ plan → IsAt script copy → AreCopies plan script self.new }
+    fn keep(&mut self, copy: Walk)
+        ensures { (plan : PlanOf) (script : ScriptOf) → AreCopies plan script self.old → plan_of copy ≡ plan → IsWalk script copy → AreCopies plan script self.new }
     {
         let _refused = self.later.push(copy);
     }

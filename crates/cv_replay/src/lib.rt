@@ -2,14 +2,15 @@
 //! or a byte has its value (docs/REPAIR.md, "Replay").
 #![tactic(auto)]
 
+mod bytes;
 mod changes;
 mod copies;
 mod cursor;
 mod laws;
-mod part;
 mod replay;
 mod script;
 mod stand;
+mod walk;
 
 pub use laws::honest_is_flown;
 pub use replay::{Replay, Sought};

@@ -6,11 +6,11 @@ ghost use Rattle.cv_machine.specs.Held.{state_of};
 ghost use Rattle.cv_replay.specs.ReplayOf.{byte, register, said, since};
 ghost use Rattle.cv_replay.specs.Said.{state_before};
 
-use crate::changes::{last_change, last_changes};
+use crate::bytes::byte_changed;
 use crate::copies::Copies;
-use crate::part::Part;
 use crate::script::Script;
 use crate::stand::Stand;
+use crate::walk::Walk;
 use cv_base::{Entry, NoMemory, PatchTable, Plan};
 use cv_machine::Machine;
 use std::alloc::Global;
@@ -27,13 +27,14 @@ pub enum Sought {
 }
 
 /// A run that has an entry, stood before one of its turns. It keeps at most 16 copies of the run in
-/// flight, evenly spaced, of at most 224 MiB in all, so that a seek goes on from the nearest.
+/// flight, evenly spaced, of at most 224 MiB in all, so that a seek goes on from the nearest. It
+/// notes on its way since when each register has its value.
 ///
 /// Contracts see the plan, the tables of the versions, the entry, and the turn.
 #[derive(Drop)]
 pub struct Replay {
     script: Script,
-    here: Stand,
+    here: Walk,
     copies: Copies,
 }
 
@@ -64,7 +65,7 @@ impl Replay {
         ensures { IfOk result (λ r. r ≡ record { plan = plan.now; versions = map (λ t. t.value) tables.items; entry = entry.now; turn = 0 }) }
     {
         let script = Script::make(alloc, plan, entry, tables)?;
-        let here = Stand::make(alloc, plan, &script, entry.worker)?;
+        let here = Walk::make(Stand::make(alloc, plan, &script, entry.worker)?);
         let first = here.copied(alloc)?;
         let copies = Copies::make(alloc, &plan.image, script.turns(), first);
         Ok(Replay {
@@ -90,8 +91,8 @@ impl Replay {
         if turn >= self.script.turns() {
             return Ok(Sought::Past);
         }
-        let stand = self.copies.travel(alloc, &self.script, &self.here, turn)?;
-        self.here = stand;
+        let walk = self.copies.travel(alloc, &self.script, &self.here, turn)?;
+        self.here = walk;
         Ok(Sought::There)
     }
 
@@ -99,23 +100,23 @@ impl Replay {
     pub fn machine(&self) -> &Machine
         ensures { state_before (said self.now) self.now.turn ≡ Some (state_of result.now) }
     {
-        self.here.machine(&self.script)
+        self.here.stand.machine(&self.script)
     }
 
     /// The greatest turn below the present one before which the register has another value than
     /// before the next; none where it has one value before all of them.
-    pub fn reg_changed(&mut self, alloc: Global, reg: u8) -> Result<Option<u32>, NoMemory>
+    pub fn reg_changed(&self, reg: u8) -> Option<u32>
         requires { reg < 32 }
-        ensures since { IfOk result (λ turn. turn ≡ since (register reg) self.old) }
-        ensures same { self.new ≡ self.old }
+        ensures { result ≡ since (register reg) self.now }
     {
-        last_change(
-            alloc,
-            &self.script,
-            &self.here,
-            &self.copies,
-            Part::Register(reg),
-        )
+        self.here.changes.turn(reg)
+    }
+
+    /// The same of each register, x0 first.
+    pub fn regs_changed(&self) -> [Option<u32>; 32]
+        ensures { result ≡ map (λ (n : ℕ). since (register n) self.now) (range_with_len 0 32) }
+    {
+        self.here.changes.turns()
     }
 
     /// The same of the byte at an address.
@@ -123,20 +124,6 @@ impl Replay {
         ensures since { IfOk result (λ turn. turn ≡ since (byte addr) self.old) }
         ensures same { self.new ≡ self.old }
     {
-        last_change(
-            alloc,
-            &self.script,
-            &self.here,
-            &self.copies,
-            Part::Byte(addr),
-        )
-    }
-
-    /// The same of each register, x0 first, in one pass over the run.
-    pub fn regs_changed(&mut self, alloc: Global) -> Result<[Option<u32>; 32], NoMemory>
-        ensures since { IfOk result (λ turns. turns ≡ map (λ (n : ℕ). since (register n) self.old) (range_with_len 0 32)) }
-        ensures same { self.new ≡ self.old }
-    {
-        last_changes(alloc, &self.script, &self.here, &self.copies)
+        byte_changed(alloc, &self.script, &self.here, &self.copies, addr)
     }
 }

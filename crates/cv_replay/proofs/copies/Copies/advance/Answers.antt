@@ -1,5 +1,6 @@
 use Rattle.std.proofs.Common.{arith, ◌∙◌}
-use Rattle.cv_replay.proofs.copies.Copies.walk.Goals as goal
+use Rattle.cv_replay.specs.Standing.{plan_of}
+use Rattle.cv_replay.proofs.copies.Copies.advance.Goals as goal
 
 pub loop-alloc-preserved : goal.loop-alloc-preserved
 loop-alloc-preserved c =
@@ -12,5 +13,5 @@ loop-alloc-preserved c =
       plan = told.plan ∙ now.plan;
       at = told.at;
       turn = omega (arith, turn, here, below);
-      copies = c.leave.ensures c.args.stand.now.flight.plan c.args.script.now now.copies (told.plan ∙ now.plan) told.at;
+      copies = c.leave.ensures (plan_of c.args.walk.now) c.args.script.now now.copies (told.plan ∙ now.plan) told.at;
     }

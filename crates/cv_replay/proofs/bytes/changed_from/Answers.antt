@@ -1,13 +1,14 @@
 use Rattle.std.proofs.Common.{◌≡◌, ℕ, arith, subst}
-use Rattle.cv_replay.specs.Parts.{or_before, value_of}
+use Rattle.cv_replay.specs.Changed.{or_before}
+use Rattle.cv_replay.specs.ReplayOf.{byte}
 use Rattle.cv_replay.specs.Said.{changed_before, value_before}
 use Rattle.cv_replay.specs.Script.{steps_by_script}
 use Rattle.cv_replay.specs.Standing.{turn_of}
-use Rattle.cv_replay.proofs.changes.change_from.Goals as goal
+use Rattle.cv_replay.proofs.bytes.changed_from.Goals as goal
 
 pub returns : goal.returns
 returns c =
-    let before = value_before (value_of c.args.part) (steps_by_script c.args.from.now.flight.plan c.args.script.now) in
+    let before = value_before (byte c.args.address) (steps_by_script c.args.from.now.flight.plan c.args.script.now) in
     let end = c.loop-turn.invariant.end in
     let over = c.loop-turn-test.false in
     let to : c.loop-turn.turn ≡ c.args.to = omega (arith, end, over) in
