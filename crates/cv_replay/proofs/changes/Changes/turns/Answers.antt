@@ -1,4 +1,4 @@
-use Rattle.std.proofs.Common.{◌<◌, ◌≤◌, ◌∙◌, arith}
+use Rattle.std.proofs.Common.{◌<◌, ◌∙◌, arith}
 use Rattle.cv_replay.proofs.LastChange.{each_is}
 use Rattle.cv_replay.proofs.changes.Changes.turns.Goals as goal
 
