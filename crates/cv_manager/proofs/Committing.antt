@@ -1,20 +1,23 @@
 -- What is kept once an entry is posted with what it makes anew.
 use Rattle.std.proofs.Common.{◌≡◌, ◌<◌, ◌≤◌, ◌+◌, ℕ, Bool, true, false, List, [], ◌∷◌, ◌++◌, length, map, Vec, Global, Option, Some, None, refl, sym, ap, subst, ◌∙◌, arith, length-append}
 use Rattle.std.specs.List.{AllByRecursion}
-use Rattle.std.specs.Prelude.{◌==◌, if◌then◌else◌, option_map, unwrap_or, vec_capacity}
+use Rattle.std.specs.Prelude.{◌==◌, if◌then◌else◌, option_map, vec_capacity}
 use Rattle.std.specs.declared.sync.Arc.{Arc}
 use Rattle.std.proofs.lemmas.Bool.{eq-eqb, ne_eqb}
 use Rattle.std.proofs.lemmas.List.{length-map, map-append}
 use Rattle.cv_base.specs.declared.cases.Case.{Case}
 use Rattle.cv_base.specs.declared.entries.Entry.{Entry}
+use Rattle.cv_base.specs.declared.entries.Observation.{Observation}
 use Rattle.cv_base.specs.declared.patches.PatchTable.{PatchTable}
 use Rattle.cv_base.specs.PlanOf.{PlanOf}
 use Rattle.cv_blocks.specs.TextMap.{text_only}
 use Rattle.cv_histories.specs.Cases.{cases}
 use Rattle.cv_histories.specs.Report.{makers}
-use Rattle.cv_histories.specs.Seen.{Seen, observed}
+use Rattle.cv_histories.specs.Runs.{run_at}
+use Rattle.cv_histories.specs.Seen.{Seen, is_observed, observed, observed_of}
 use Rattle.cv_histories.specs.Versions.{add_version, ledger, newest_of, same_table, table}
-use Rattle.cv_manager.specs.Kept.{IsKept, IsLearned, IsNext, if_new, ledger_of, past_of, seen_as, seen_with, table_with}
+use Rattle.cv_manager.specs.Kept.{IsKept, IsNext, if_new, ledger_of, past_of, seen_as, seen_with, table_with}
+use Rattle.cv_manager.specs.MayPost.{MayPost}
 use Rattle.cv_manager.specs.Progress.{StandFrom}
 use Rattle.cv_manager.specs.Tables.{IsCase, opened_list}
 use Rattle.cv_manager.specs.declared.kept.Kept.{Kept}
@@ -22,7 +25,7 @@ use Rattle.cv_manager.specs.declared.kept.Next.{Next}
 use Rattle.cv_observe.specs.StandsFor.{StandsFor, SummaryOf}
 use Rattle.cv_runs.specs.PatchedRun.{Table}
 use Rattle.cv_manager.proofs.Sizes.{few_cases, few_versions}
-use Rattle.cv_manager.proofs.Observing.{observed_same}
+use Rattle.cv_manager.proofs.Observing.{observed_now}
 use Rattle.cv_manager.proofs.Posted.{cases_now}
 use Rattle.cv_manager.proofs.Stands.{each_append, stand_long}
 
@@ -76,6 +79,16 @@ module _ (k : Kept) (kept : IsKept k) (e : Entry) where
       ap (λ (n : ℕ). makers k.plan (past_of k) ++ Some n ∷ []) (sym (length-map k.journal (λ (s : Seen). s.entry)))
       ∙ sym (ap made other)
 
+-- what is learned from once an entry is posted with the summary of its run
+module _ (k : Kept) (kept : IsKept k) (e : Entry) (run : SummaryOf) (may : MayPost k.plan (past_of k) e run) (s : SummaryOf) where
+  pub text_now : s.text ≡ k.summary.text → s.text ≡ text_only k.plan.image
+  text_now same = same ∙ kept.summary
+
+  pub learned_now : ((before new : List Observation) → StandsFor k.summary before → (is_observed e ≡ true → StandsFor run new) → StandsFor s (if is_observed e then new ++ before else before)) → StandsFor s (observed k.plan (seen_with k e))
+  learned_now learns =
+      subst (StandsFor s) (sym (observed_now k.plan (seen_as k e) k.journal))
+      (learns (observed k.plan k.journal) (observed_of k.plan (run_at k.plan e.run)) kept.learned may.seen)
+
 module _ (k : Kept) (kept : IsKept k) (e : Entry) (x : Next) (next : IsNext k e x) (cs : Vec Case Global) (cs_is : cs.items ≡ k.cases.items ++ opened_list x.opened) (cs_room : vec_capacity k.cases ≤ vec_capacity cs) where
   abbrev kept_with : List Seen → Vec Version Global → Vec (Option ℕ) Global → SummaryOf → Kept
   kept_with j vs ms s = record { plan = k.plan; map = k.map; journal = j; versions = vs; makers = ms; cases = cs; progress = x.progress; changes = x.changes; summary = s }
@@ -84,13 +97,8 @@ module _ (k : Kept) (kept : IsKept k) (e : Entry) (x : Next) (next : IsNext k e 
   abbrev Rest : Vec Version Global → Vec (Option ℕ) Global → Type 0
   Rest vs ms = (map (λ (t : Version). t.value) vs.items ≡ now k kept e) × (ms.items ≡ makers k.plan (e ∷ past_of k)) × (vec_capacity k.versions ≤ vec_capacity vs) × (vec_capacity k.makers ≤ vec_capacity ms)
 
-  learned_now : (o : Option SummaryOf) → IsLearned k e o → ((unwrap_or o k.summary).text ≡ text_only k.plan.image) × StandsFor (unwrap_or o k.summary) (observed k.plan (seen_with k e))
-  learned_now None unseen = (kept.summary, subst (StandsFor k.summary) (sym (observed_same k.plan (seen_as k e) k.journal unseen)) kept.learned)
-  learned_now (Some s) is = is
-
-  whole : (vs : Vec Version Global) (ms : Vec (Option ℕ) Global) → Rest vs ms → IsKept (kept_with (seen_with k e) vs ms (unwrap_or x.summary k.summary))
-  whole vs ms rest =
-      let learned = learned_now x.summary next.summary in
+  whole : (vs : Vec Version Global) (ms : Vec (Option ℕ) Global) (s : SummaryOf) → s.text ≡ text_only k.plan.image → StandsFor s (observed k.plan (seen_with k e)) → Rest vs ms → IsKept (kept_with (seen_with k e) vs ms s)
+  whole vs ms s text learned rest =
       let all : cs.items ≡ cases k.plan (seen_with k e) = cs_is ∙ cases_now k kept e (opened_list x.opened) next.opened in
       let long : length vs.items ≡ length (now k kept e) = sym (length-map vs.items (λ (t : Version). t.value)) ∙ ap length rest.0 in
       let past : length (past_of k) ≡ length k.journal = length-map k.journal (λ (s : Seen). s.entry) in
@@ -105,8 +113,8 @@ module _ (k : Kept) (kept : IsKept k) (e : Entry) (x : Next) (next : IsNext k e 
         each = subst (AllByRecursion (IsCase k.plan.image)) (sym cs_is) (each_append (IsCase k.plan.image) k.cases.items (opened_list x.opened) kept.each next.each);
         progress = subst (λ (l : List Case). StandFrom k.plan 0 (seen_with k e) l x.progress.items) (sym cs_is) next.progress;
         changes = next.changes;
-        summary = learned.0;
-        learned = learned.1;
+        summary = text;
+        learned = learned;
         few_cases = rw all (few_cases k.plan (seen_with k e));
         few_versions = omega (arith, long, past, few_versions k.plan (e ∷ past_of k));
         each_progress = stand_long k.plan 0 (seen_with k e) (k.cases.items ++ opened_list x.opened) x.progress.items next.progress ∙ ap length (sym cs_is);
@@ -115,12 +123,11 @@ module _ (k : Kept) (kept : IsKept k) (e : Entry) (x : Next) (next : IsNext k e 
         room_for_makers = omega (arith, rest.3, kept.room_for_makers);
       }
 
-  module _ (j : List Seen) (j_is : j ≡ record { entry = e; last = x.last.value } ∷ k.journal) (s : SummaryOf) (s_is : s ≡ unwrap_or x.summary k.summary) where
+  module _ (j : List Seen) (j_is : j ≡ record { entry = e; last = x.last.value } ∷ k.journal) (s : SummaryOf) (text : s.text ≡ text_only k.plan.image) (learned : StandsFor s (observed k.plan (seen_with k e))) where
     of_parts : (vs : Vec Version Global) (ms : Vec (Option ℕ) Global) → Rest vs ms → IsKept (kept_with j vs ms s)
     of_parts vs ms rest =
         let seen : j ≡ seen_with k e = j_is ∙ ap (λ (t : Table). let newest : Seen = record { entry = e; last = t } in newest ∷ k.journal) next.last in
-        subst (λ (l : List Seen). IsKept (kept_with l vs ms s)) (sym seen)
-        (subst (λ (o : SummaryOf). IsKept (kept_with (seen_with k e) vs ms o)) (sym s_is) (whole vs ms rest))
+        subst (λ (l : List Seen). IsKept (kept_with l vs ms s)) (sym seen) (whole vs ms s text learned rest)
 
     pub kept_with_none : x.version ≡ None → IsKept (kept_with j k.versions k.makers s)
     kept_with_none is =

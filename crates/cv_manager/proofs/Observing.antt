@@ -1,7 +1,7 @@
 -- What is learned from once an entry more was posted.
 use Rattle.std.proofs.Common.{◌≡◌, Bool, true, false, cond, List, ◌∷◌, ◌++◌, Option, Some, None, refl, ap}
 use Rattle.std.specs.List.{filter, flat_map}
-use Rattle.std.specs.Prelude.{◌&&◌}
+use Rattle.std.specs.Prelude.{◌&&◌, if◌then◌else◌}
 use Rattle.cv_base.specs.declared.ends.End.{End}
 use Rattle.cv_base.specs.declared.ends.End.TheVariants.{Exit, Failure, Budget}
 use Rattle.cv_base.specs.declared.ends.FailureId.{FailureId}
@@ -20,8 +20,12 @@ module _ (plan : PlanOf) (s : Seen) (past : List Seen) where
       let rest = filter (λ (s : Seen). is_observed s.entry) past in
       flat_map (λ (s : Seen). observed_of plan (run_at plan s.entry.run)) (cond b (s ∷ rest) rest)
 
-  pub observed_more : is_observed s.entry ≡ true → observed plan (s ∷ past) ≡ observed_of plan (run_at plan s.entry.run) ++ observed plan past
-  observed_more is = ap observed_if is
+  by_test : (b : Bool) → observed_if b ≡ (if b then observed_of plan (run_at plan s.entry.run) ++ observed plan past else observed plan past)
+  by_test true = refl
+  by_test false = refl
+
+  pub observed_now : observed plan (s ∷ past) ≡ (if is_observed s.entry then observed_of plan (run_at plan s.entry.run) ++ observed plan past else observed plan past)
+  observed_now = by_test (is_observed s.entry)
 
   pub observed_same : is_observed s.entry ≡ false → observed plan (s ∷ past) ≡ observed plan past
   observed_same is = ap observed_if is

@@ -1,6 +1,6 @@
 -- What a manager keeps of a plan and a history, and what one more entry makes of it
 -- (docs/REPAIR.md, "Histories").
-use Rattle.std.specs.Prelude.{◌≡◌, ◌≤◌, false, if◌then◌else◌, List, ◌∷◌, ◌++◌, ◌+◌, length, map, Option, Some, None, option_map, vec_capacity}
+use Rattle.std.specs.Prelude.{◌≡◌, ◌≤◌, if◌then◌else◌, List, ◌∷◌, ◌++◌, ◌+◌, length, map, Option, Some, None, option_map, vec_capacity}
 use Rattle.std.specs.List.{AllByRecursion}
 use Rattle.cv_base.specs.declared.entries.Entry.{Entry}
 use Rattle.cv_base.specs.PlanOf.{IsPlan}
@@ -10,7 +10,7 @@ use Rattle.cv_histories.specs.Cases.{cases, opened_by}
 use Rattle.cv_histories.specs.declared.TheConstants.{MOST_CASES}
 use Rattle.cv_histories.specs.Installed.{changes}
 use Rattle.cv_histories.specs.Report.{makers}
-use Rattle.cv_histories.specs.Seen.{Seen, is_observed, last_version, live_failure, observed, table_at}
+use Rattle.cv_histories.specs.Seen.{Seen, last_version, live_failure, observed, table_at}
 use Rattle.cv_histories.specs.Versions.{Ledger, ledger, newest_of, same_table, table}
 use Rattle.cv_manager.specs.declared.kept.Kept.{Kept}
 use Rattle.cv_manager.specs.declared.kept.Next.{Next}
@@ -18,7 +18,7 @@ use Rattle.cv_manager.specs.declared.TheConstants.{MOST_VERSIONS}
 use Rattle.cv_manager.specs.Journal.{entries_of}
 use Rattle.cv_manager.specs.Progress.{StandFrom}
 use Rattle.cv_manager.specs.Tables.{IsCase, opened_list}
-use Rattle.cv_observe.specs.StandsFor.{StandsFor, SummaryOf}
+use Rattle.cv_observe.specs.StandsFor.{StandsFor}
 use Rattle.cv_runs.specs.PatchedRun.{Table}
 
 -- the history, the newest entry first
@@ -63,11 +63,6 @@ table_with k e = table k.plan (seen_with k e)
 abbrev pub if_new : List Table → Table → Option Table
 if_new versions t = if same_table t (newest_of versions) then None else Some t
 
--- what the summary comes to, where the entry is of a run that is learned from
-abbrev pub IsLearned : Kept → Entry → Option SummaryOf → Type 0
-IsLearned k e None = is_observed e ≡ false
-IsLearned k e (Some s) = (s.text ≡ text_only k.plan.image) × StandsFor s (observed k.plan (seen_with k e))
-
 -- what one more entry makes anew
 pub record IsNext (k : Kept) (e : Entry) (n : Next) : Type 0 where
   pub last : n.last.value ≡ table_at (ledger_of k).versions (last_version e.adopted)
@@ -76,4 +71,3 @@ pub record IsNext (k : Kept) (e : Entry) (n : Next) : Type 0 where
   pub progress : StandFrom k.plan 0 (seen_with k e) (k.cases.items ++ opened_list n.opened) n.progress.items
   pub version : option_map (λ t. t.value) n.version ≡ if_new (ledger_of k).versions (table_with k e)
   pub changes : n.changes.items ≡ changes k.plan (seen_with k e)
-  pub summary : IsLearned k e n.summary

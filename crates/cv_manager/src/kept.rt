@@ -1,17 +1,20 @@
-ghost use Rattle.std.specs.Prelude.{◌≡◌, ◌<◌, ◌≤◌, ◌∷◌, ◌++◌, [], List, true, length, map, option_map, unwrap_or, vec_capacity, IfOk};
+ghost use Rattle.std.specs.Prelude.{◌≡◌, ◌<◌, ◌≤◌, ◌∷◌, ◌++◌, [], List, if◌then◌else◌, true, length, map, option_map, vec_capacity, IfOk};
 ghost use Rattle.std.specs.List.{AllByRecursion, list_all};
 ghost use Rattle.cv_base.specs.declared.entries.Entry.{Entry};
+ghost use Rattle.cv_base.specs.declared.entries.Observation.{Observation};
 ghost use Rattle.cv_base.specs.Picture.{is_point};
 ghost use Rattle.cv_base.specs.WellFormed.{IsImage};
 ghost use Rattle.cv_histories.specs.Cases.{has_case, opened_by};
 ghost use Rattle.cv_histories.specs.Installed.{changes};
-ghost use Rattle.cv_histories.specs.Seen.{Seen, live_failure};
+ghost use Rattle.cv_histories.specs.Runs.{runs};
+ghost use Rattle.cv_histories.specs.Seen.{Seen, is_observed, live_failure};
 ghost use Rattle.cv_histories.specs.Versions.{newest_of, same_table, tables_from};
-ghost use Rattle.cv_manager.specs.Kept.{IsKept, IsLearned, IsNext, if_new, ledger_of, past_of, seen_as, seen_with, table_with};
+ghost use Rattle.cv_manager.specs.Kept.{IsKept, IsNext, if_new, ledger_of, past_of, seen_as, seen_with, table_with};
 ghost use Rattle.cv_manager.specs.ManagerOf.{number_if_new};
 ghost use Rattle.cv_manager.specs.MayPost.{MayPost};
 ghost use Rattle.cv_manager.specs.Progress.{StandFrom, no_progress};
 ghost use Rattle.cv_manager.specs.Tables.{IsCase, opened_list};
+ghost use Rattle.cv_observe.specs.StandsFor.{StandsFor};
 
 use crate::journal::Journal;
 use crate::judging::{is_failure, live_failure};
@@ -23,7 +26,7 @@ use cv_base::{Case, Change, Entry, FailureId, Image, NoMemory, PatchTable, Plan}
 use cv_blocks::TextMap;
 use cv_case::open_case;
 use cv_histories::is_observed;
-use cv_observe::Summary;
+use cv_observe::{Summary, summary_in_any_order};
 use std::alloc::Global;
 use std::sync::Arc;
 
@@ -50,7 +53,6 @@ pub(crate) struct Next {
     progress: Vec<Progress>,
     version: Option<Arc<PatchTable, Global>>,
     changes: Vec<Change>,
-    summary: Option<Summary>,
 }
 
 impl Kept {
@@ -129,26 +131,6 @@ impl Kept {
         Ok(Some(case))
     }
 
-    /// The summary with what was seen in an entry's run, where that is learned from.
-    fn summary_with(
-        &self,
-        alloc: Global,
-        entry: &Entry,
-        summary: &Summary,
-    ) -> Result<Option<Summary>, NoMemory>
-        requires kept { IsKept self.now }
-        requires may { MayPost self.now.plan (past_of self.now) entry.now summary.now }
-        ensures { IfOk result (IsLearned self.now entry.now) }
-    {
-        if !is_observed(entry) {
-            return Ok(None);
-        }
-        let mut merged = Summary::make(alloc, &self.map)?;
-        merged.merge(summary)?;
-        merged.merge(&self.summary)?;
-        Ok(Some(merged))
-    }
-
     /// The table of the cases, where it is another than that of the last version.
     fn version_of(
         &self,
@@ -221,14 +203,10 @@ impl Kept {
     }
 
     /// What an entry makes anew.
-    pub(crate) fn next(
-        &self,
-        alloc: Global,
-        entry: &Entry,
-        summary: &Summary,
-    ) -> Result<Next, NoMemory>
+    pub(crate) fn next(&self, alloc: Global, entry: &Entry) -> Result<Next, NoMemory>
         requires kept { IsKept self.now }
-        requires may { MayPost self.now.plan (past_of self.now) entry.now summary.now }
+        requires room { length (past_of self.now) < length (runs self.now.plan) }
+        requires sites { list_all (is_point self.now.plan.image) entry.now.sites ≡ true }
         ensures { IfOk result (IsNext self.now entry.now) }
     {
         let last = self.last_of(alloc, entry)?;
@@ -237,21 +215,20 @@ impl Kept {
         let opened = self.opened(alloc, entry)?;
         let progress = with_opened(progress, &opened)?;
         let version = self.version_of(alloc, &opened, progress.as_slice())?;
-        let summary = self.summary_with(alloc, entry, summary)?;
         Ok(Next {
             last,
             opened,
             progress,
             version,
             changes,
-            summary,
         })
     }
 
-    /// The entry is posted with what it makes anew: the number of the new version, if there is one.
-    /// It takes no memory.
-    pub(crate) fn commit(&mut self, entry: Entry, next: Next) -> Option<u32>
+    /// The entry is posted with what it makes anew, and its run's summary where that is learned from:
+    /// the number of the new version, if there is one. It takes no memory.
+    pub(crate) fn commit(&mut self, entry: Entry, summary: &Summary, next: Next) -> Option<u32>
         requires kept { IsKept self.old }
+        requires may { MayPost self.old.plan (past_of self.old) entry summary.now }
         requires next { IsNext self.old entry next }
         requires room { length (past_of self.old) < 1024 }
         ensures kept { IsKept self.new }
@@ -265,14 +242,13 @@ impl Kept {
             progress,
             version,
             changes,
-            summary,
         } = next;
         let number = self.journal.len();
+        learn_from(&mut self.summary, &entry, summary);
         self.journal.push(entry, last);
         add_opened(&mut self.cases, opened);
         self.progress = progress;
         self.changes = changes;
-        renew(&mut self.summary, summary);
         let version = version?;
         let added = self.versions.len() as u32;
         self.versions.push(version).unwrap();
@@ -306,12 +282,16 @@ fn add_opened(cases: &mut Vec<Case>, opened: Option<Case>)
     }
 }
 
-/// Puts a summary in place of another, where there is one.
-fn renew(summary: &mut Summary, next: Option<Summary>)
-    ensures { summary.new ≡ unwrap_or next summary.old }
+/// Adds what was seen in an entry's run, in front of what was seen before it, where that is learned
+/// from. It takes no memory.
+fn learn_from(learned: &mut Summary, entry: &Entry, run: &Summary)
+    requires { run.now.text ≡ learned.old.text }
+    ensures text { learned.new.text ≡ learned.old.text }
+    ensures learned { (before new : List Observation) → StandsFor learned.old before → (is_observed entry.now ≡ true → StandsFor run.now new) → StandsFor learned.new (if is_observed entry.now then new ++ before else before) }
 {
-    if let Some(next) = next {
-        *summary = next;
+    summary_in_any_order();
+    if is_observed(entry) {
+        learned.merge(run).unwrap();
     }
 }
 

@@ -83,8 +83,8 @@ impl Manager {
         ensures err { OnErr result (self.new ≡ self.old) }
         ensures handed_back { IfErr result (λ unkept. unkept.entry ≡ entry) }
     {
-        match self.kept.next(alloc, &entry, summary) {
-            Ok(next) => Ok(self.kept.commit(entry, next)),
+        match self.kept.next(alloc, &entry) {
+            Ok(next) => Ok(self.kept.commit(entry, summary, next)),
             Err(NoMemory) => Err(Unkept { entry }),
         }
     }

@@ -22,22 +22,22 @@ use Rattle.cv_observe.proofs.Insertions.{put, put_put}
 use Rattle.cv_observe.proofs.Least.{least_so_far, least_flips, signed_least_is}
 use Rattle.cv_observe.specs.Words.{HaveWords}
 
-and_flips : (s p q : Bool) → ((s && p) && q) ≡ ((s && q) && p)
+pub and_flips : (s p q : Bool) → ((s && p) && q) ≡ ((s && q) && p)
 and_flips true true true = refl
 and_flips true true false = refl
 and_flips true false true = refl
 and_flips true false false = refl
 and_flips false p q = refl
 
-and_joined : (s p q : Bool) → ((s && p) && q) ≡ (s && (p && q))
+pub and_joined : (s p q : Bool) → ((s && p) && q) ≡ (s && (p && q))
 and_joined true p q = refl
 and_joined false p q = refl
 
-and_alone : (s : Bool) → s ≡ (s && true)
+pub and_alone : (s : Bool) → s ≡ (s && true)
 and_alone true = refl
 and_alone false = refl
 
-all_so_far : {X : Type 0} (test : X → Bool) (s : Bool) (xs : List X) → fold (λ b x. b && test x) s xs ≡ (s && list_all test xs)
+pub all_so_far : {X : Type 0} (test : X → Bool) (s : Bool) (xs : List X) → fold (λ b x. b && test x) s xs ≡ (s && list_all test xs)
 all_so_far test s [] = and_alone s
 all_so_far test s (x ∷ xs) = all_so_far test (s && test x) xs ∙ and_joined s (test x) (list_all test xs)
 
@@ -56,7 +56,7 @@ module _ (xs ys : List Observation) (same : IsPermutation xs ys) where
       fold-map put g [] xs ∙ sym (fold-IsPermutation (λ s o. put s (g o)) flips [] xs ys same) ∙ sym (fold-map put g [] ys)
 
   module _ (p : ℕ) where
-    distinct_same : (g : Observation → ℕ) → distinct (map g (seen_at xs p)) ≡ distinct (map g (seen_at ys p))
+    pub distinct_same : (g : Observation → ℕ) → distinct (map g (seen_at xs p)) ≡ distinct (map g (seen_at ys p))
     distinct_same g =
         let flips = λ (s : List ℕ) (a b : Observation). put_put s (g a) (g b) in
         fold-map put g [] (seen_at xs p)
@@ -79,12 +79,14 @@ module _ (xs ys : List Observation) (same : IsPermutation xs ys) where
         ∙ sym (fold-map least_so_far g None (seen_at ys p)))
         ∙ sym (signed_least_is (values_of r (seen_at ys p)) (below ys (All-permutation Whole xs ys same words)))
 
-    ordered_same : (a b : ℕ) → is_ordered (seen_at xs p) a b ≡ is_ordered (seen_at ys p) a b
-    ordered_same a b =
-        let test : Observation → Bool = λ o. signed_le (register o.regs a) (register o.regs b) in
+    pub tests_same : (test : Observation → Bool) → list_all test (seen_at xs p) ≡ list_all test (seen_at ys p)
+    tests_same test =
         sym (all_so_far test true (seen_at xs p))
         ∙ fold-passing (λ (o : Observation). eqb o.point p) (λ s o. s && test o) (λ s c d. and_flips s (test c) (test d)) true xs ys same
         ∙ all_so_far test true (seen_at ys p)
+
+    pub ordered_same : (a b : ℕ) → is_ordered (seen_at xs p) a b ≡ is_ordered (seen_at ys p) a b
+    ordered_same a b = tests_same (λ (o : Observation). signed_le (register o.regs a) (register o.regs b))
 
     one_ofs_same : (reads : List ℕ) → one_ofs p reads (seen_at xs p) ≡ one_ofs p reads (seen_at ys p)
     one_ofs_same reads =

@@ -1,14 +1,36 @@
 -- What is kept at a point, with one observation more, and of two lists together.
-use Rattle.std.proofs.Common.{◌≡◌, ℕ, ◌+◌, ◌<◌, Bool, true, false, ◌||◌, List, [], ◌∷◌, ◌++◌, ◌∙◌, refl, sym, ap, subst, length, get_or, take, map, length-append, arith}
+use Rattle.std.proofs.Common.{◌≡◌, ℕ, ◌+◌, ◌^◌, ◌<◌, Bool, true, false, ◌&&◌, ◌||◌, List, [], ◌∷◌, ◌++◌, ◌∙◌, refl, sym, ap, subst, length, get_or, take, map, length-append, arith}
 use Rattle.std.proofs.lemmas.List.{map-append}
+use Rattle.std.proofs.lemmas.List.Elements.{All-append, All-from_recursion}
 use Rattle.std.proofs.Math.Seq.{take-append_seam}
 use Rattle.std.specs.List.{All}
 use Rattle.cv_base.specs.declared.entries.Observation.{Observation}
+use Rattle.cv_base.specs.Registers.{register}
+use Rattle.cv_observe.proofs.AnyOrder.{and_alone, and_joined}
 use Rattle.cv_observe.proofs.EachPlace.{parts_stay}
+use Rattle.cv_observe.proofs.Narrowing.{ordered_joined}
 use Rattle.cv_observe.specs.AtPoint.{IsPoint, IsRegister, Joins, Sees, numbers_of, offset_of}
 use Rattle.cv_observe.specs.Kept.{IsFew}
 use Rattle.cv_observe.specs.declared.point.Point.{Point}
 use Rattle.cv_observe.specs.declared.register.Register.{Register}
+use Rattle.cv_runs.specs.Invariants.{signed_le}
+use Rattle.cv_runs.specs.Learned.{is_ordered, values_of}
+
+-- the values of a register are words, with one more
+pub words_more : (r v : ℕ) (here : List Observation) (o : Observation) → v ≡ register o.regs r → v < 2 ^ 32
+    → All (λ (n : ℕ). n < 2 ^ 32) (values_of r here) → All (λ (n : ℕ). n < 2 ^ 32) (values_of r (here ++ o ∷ []))
+words_more r v here o is fits all =
+    let P : ℕ → Type 0 = λ n. n < 2 ^ 32 in
+    let part : Observation → ℕ = λ o. register o.regs r in
+    subst (All P) (sym (map-append part here (o ∷ []))) (All-append P (values_of r here) (register o.regs r ∷ []) all (All-from_recursion P (register o.regs r ∷ []) (subst P is fits, tt)))
+
+-- a pair of registers in order, with one more
+pub ordered_more : (w : Bool) (here : List Observation) (o : Observation) (a b : ℕ) → ((w && is_ordered here a b) && signed_le (register o.regs a) (register o.regs b)) ≡ (w && is_ordered (here ++ o ∷ []) a b)
+ordered_more w here o a b =
+    let last = signed_le (register o.regs a) (register o.regs b) in
+    and_joined w (is_ordered here a b) last
+    ∙ ap (λ t. w && (is_ordered here a b && t)) (and_alone last)
+    ∙ ap (λ t. w && t) (sym (ordered_joined here (o ∷ []) a b))
 
 -- a vector after a write of all its elements
 pub refilled : {X : Type 0} (n : ℕ) (list rest : List X) → length list ≡ n → take n (list ++ rest) ≡ list

@@ -5,6 +5,7 @@ use Rattle.std.proofs.lemmas.Bool.Decides.{nat_tests}
 use Rattle.std.specs.Int.{w32, cast_signed}
 use Rattle.std.specs.List.{AllByRecursion}
 use Rattle.std.specs.Prelude.{ℤ, pos, negsuc, int_lt}
+use Rattle.cv_observe.specs.Kept.{least_of}
 use Rattle.cv_runs.specs.Arithmetic.{signed_lt}
 use Rattle.cv_runs.specs.Learned.{lesser, signed_least}
 
@@ -147,7 +148,9 @@ least_from s (x ∷ xs) hs all =
     least_from (lesser s x) xs (lesser_below s x hs all.0) all.1
     ∙ ap (λ t. fold least_so_far (Some t) xs) (sym (ap (λ t. lesser t (word x)) (word_same s hs) ∙ ap (λ t. lesser s t) (word_same x all.0)))
 
+pub least_is : (xs : List ℕ) → AllByRecursion (λ v. v < 2 ^ 32) xs → least_of xs ≡ fold least_so_far None xs
+least_is [] all = refl
+least_is (x ∷ xs) all = least_from x xs all.0 all.1 ∙ ap (λ t. fold least_so_far (Some t) xs) (sym (word_same x all.0))
+
 pub signed_least_is : (xs : List ℕ) → AllByRecursion (λ v. v < 2 ^ 32) xs → signed_least xs ≡ unwrap_or (fold least_so_far None xs) 0
-signed_least_is [] all = refl
-signed_least_is (x ∷ xs) all =
-    ap (λ t. unwrap_or t 0) (least_from x xs all.0 all.1 ∙ ap (λ t. fold least_so_far (Some t) xs) (sym (word_same x all.0)))
+signed_least_is xs all = ap (λ t. unwrap_or t 0) (least_is xs all)

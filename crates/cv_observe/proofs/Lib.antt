@@ -13,3 +13,4 @@ pub mod Narrowing
 pub mod OneOut
 pub mod OneTable
 pub mod PointsSeen
+pub mod SummaryOrder

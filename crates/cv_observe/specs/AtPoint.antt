@@ -1,5 +1,5 @@
 -- What is kept of what was seen before turns at a point (docs/REPAIR.md, "Learning").
-use Rattle.std.specs.Prelude.{◌≡◌, ℕ, ◌<◌, Bool, true, false, List, [], ◌∷◌, ◌++◌, length, map}
+use Rattle.std.specs.Prelude.{◌≡◌, ℕ, ◌^◌, ◌<◌, Bool, true, false, List, [], ◌∷◌, ◌++◌, length, map}
 use Rattle.std.specs.List.{All}
 use Rattle.cv_base.specs.Registers.{register}
 use Rattle.cv_base.specs.declared.entries.Observation.{Observation}
@@ -9,10 +9,11 @@ use Rattle.cv_observe.specs.Kept.{IsFew, AreAbove, AreBelow, least_of}
 use Rattle.cv_runs.specs.Arithmetic.{minus32}
 use Rattle.cv_runs.specs.Learned.{values_of}
 
--- of a register: its values, the least one, and the registers of the window with which it was
--- always in order
+-- of a register: its values, which are words, the least one, and the registers of the window with
+-- which it was always in order
 pub record IsRegister (window : ℕ → Bool) (k : Register) (here : List Observation) : Type 0 where
   pub values : IsFew 4 k.values.numbers.items k.values.more (values_of k.number here)
+  pub words : All (λ (v : ℕ). v < 2 ^ 32) (values_of k.number here)
   pub least : k.least ≡ least_of (values_of k.number here)
   pub above : AreAbove window k.number here k.above
   pub below : AreBelow window k.number here k.below

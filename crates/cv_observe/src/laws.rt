@@ -6,6 +6,7 @@ ghost use Rattle.cv_base.specs.declared.entries.Observation.{Observation};
 ghost use Rattle.cv_base.specs.Picture.{Picture};
 ghost use Rattle.cv_runs.specs.Learned.{distinct, is_ordered, learned};
 ghost use Rattle.cv_observe.specs.Kept.{least_of, lesser_of};
+ghost use Rattle.cv_observe.specs.StandsFor.{StandsFor, SummaryOf};
 ghost use Rattle.cv_observe.specs.Words.{HaveWords};
 
 /// The distinct numbers of two lists are those of the first with those of the second added, so a
@@ -17,6 +18,11 @@ pub fn distinct_numbers_of_two_lists()
 /// The same is learned of the same observations in any order.
 pub fn learned_in_any_order()
     ensures { (image : Picture) (xs ys : List Observation) → HaveWords xs → IsPermutation xs ys → learned image xs ≡ learned image ys }
+{}
+
+/// A summary stands for its observations in any order.
+pub fn summary_in_any_order()
+    ensures { (s : SummaryOf) (xs ys : List Observation) → IsPermutation xs ys → StandsFor s xs → StandsFor s ys }
 {}
 
 /// More than n distinct numbers stay more than n.

@@ -17,7 +17,7 @@ mod table;
 
 pub use laws::{
     distinct_numbers_of_two_lists, learned_in_any_order, least_of_two_lists,
-    more_numbers_stay_more, pairs_of_two_lists,
+    more_numbers_stay_more, pairs_of_two_lists, summary_in_any_order,
 };
 pub use plain::Plain;
 pub use summary::Summary;

@@ -7,7 +7,7 @@ use Rattle.cv_manager.proofs.Room.{room}
 use Rattle.cv_manager.proofs.kept.Kept.next.Goals as goal
 
 pub progress_with-requires-clause-room : goal.progress_with-requires-clause-room
-progress_with-requires-clause-room c = room c.args.self.now.plan _ c.requires.kept.limits c.requires.may.room
+progress_with-requires-clause-room c = room c.args.self.now.plan _ c.requires.kept.limits c.requires.room
 
 pub version_of-requires-clause-stand : goal.version_of-requires-clause-stand
 version_of-requires-clause-stand c =
@@ -35,5 +35,4 @@ returns c =
           c.in_ok-version.ensures (seen_with k e) (subst stands (sym c.as_slice-2.ensures.value) stand)
           ∙ ap (if_new (ledger_of k).versions) (table_now k c.requires.kept e opened c.in_ok-opened.ensures.opened);
       changes = c.in_ok-changes.ensures e (subst (λ (ps : List ProgressOf). StandFrom k.plan 0 (seen_with k e) k.cases.items ps) (sym c.as_slice.ensures.value) c.in_ok-progress.ensures);
-      summary = c.in_ok-summary.ensures;
     }
