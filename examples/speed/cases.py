@@ -74,7 +74,8 @@ def main():
         os.chdir(place)
         with open('cases.s', 'w', encoding='ascii') as file:
             file.write('\n'.join(lines) + '\n')
-        processor_time([program, 'asm', 'cases.s'])
+        with open('cases.bin', 'wb') as file:
+            subprocess.run([program, 'asm', 'cases.s'], stdout=file, check=True)
         for name, live in failing.items():
             with open(f'{name}.json', 'w', encoding='ascii') as file:
                 json.dump({'image': 'cases.bin', 'workers': 1, 'checks': 8, 'budget': 10_000_000, 'rounds': [
