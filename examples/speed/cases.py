@@ -3,7 +3,7 @@
 A guest has N procedures (64) of which each fails by an illegal call, so that a live run opens a case with 64
 candidates; behind N such runs 64 N checks are installed. Then R live runs (32) make C calls (200,000) each of another
 procedure, where no patch stands. Printed is the processor time of `run` on that job against that on the same with one
-case of a few candidates, as the ratio of medians of K rounds (5), both in turn, and how many cases and candidates
+case of few candidates, as the ratio of medians of K rounds (5), both in turn, and how many cases and candidates
 either report has."""
 import argparse
 import json
@@ -87,8 +87,8 @@ def main():
                 if turn:
                     times[name].append(seconds)
                 else:
-                    opened = [line for line in report.splitlines() if line.startswith('case ')]
-                    print(f'{name}: {len(opened)} cases; the first: {opened[0][:120] if opened else "-"}')
+                    told = [line.split()[0] for line in report.splitlines()]
+                    print(f'{name}: {told.count("case")} cases, {told.count("candidate")} candidates')
         middle = {name: statistics.median(each) for name, each in times.items()}
         print(f'{middle["many cases"]:.3f} s against {middle["one case"]:.3f} s: {middle["many cases"] / middle["one case"]:.2f}')
 
