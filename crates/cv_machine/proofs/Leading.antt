@@ -1,16 +1,16 @@
 -- Plain turns that lead from a state to another: one more of them, and what is left of a run behind
 -- them.
-use Rattle.std.proofs.Common.{◌≡◌, ◌≤◌, ◌<◌, ◌+◌, ℕ, suc, zero, Bool, true, false, sym, ap, refl, subst, ◌∙◌, add-one, arith}
+use Rattle.std.proofs.Common.{◌≡◌, ◌≤◌, ◌<◌, ◌+◌, ℕ, suc, zero, Bool, true, false, sym, ap, refl, subst, add-one, arith}
 use Rattle.cv_base.specs.Picture.{Picture}
 use Rattle.cv_machine.specs.Answers.{answer_of, left_by}
 use Rattle.cv_machine.specs.Held.{Held, state_of}
 use Rattle.cv_machine.specs.PlainTurns.{GoesOn, LastOf, IsStretch, LeadTo}
-use Rattle.cv_machine.specs.Quick.{address_at, state_at, Tells, IsPlace, IsNext}
+use Rattle.cv_machine.specs.Quick.{state_at, Tells, IsNext}
 use Rattle.cv_machine.specs.declared.quick.Quick.{Quick}
 use Rattle.cv_machine.specs.declared.quick.Quick.TheVariants.{On, Jump, Slow}
 use Rattle.cv_machine.proofs.Remains.{Remains, more}
 use Rattle.cv_runs.specs.PlainTurn.{turn_of}
-use Rattle.cv_runs.specs.State.{State, Outcome, Next, Ended, moved}
+use Rattle.cv_runs.specs.State.{State, Outcome, Next, Ended}
 
 goes_on : (o : Outcome) (R : State → Bool → Type 0) (u : State) (transfer : Bool) → o ≡ Next u transfer → R u transfer → GoesOn o R
 goes_on o R u transfer e r = subst (λ (p : Outcome). GoesOn p R) (sym e) r
@@ -39,11 +39,6 @@ quick_more image k s h n at next went same lead tells is =
     let after = went_more h.image k s h n at next went before tells is in
     let e : k + 1 ≡ suc k = add-one k in
     rw e (subst (λ (p : Picture). LeadTo p (suc k) s (state_at n next)) same after)
-
-pub place_next : (count next : ℕ) (went : Quick) → IsPlace count went → IsNext went next → next < count
-place_next count next (On place) within is = rw is at within
-place_next count next (Jump place) within is = rw is at within
-place_next count next Slow within is = absurd is
 
 further_of : (image : Picture) (start : State) (budget done k : ℕ) (s t : State) (o : Outcome) → turn_of image s ≡ o → done < budget → ((n : State) → LeadTo image k n t → Remains image start budget (done + 1) n → Remains image start budget (done + suc k) t) → GoesOn o (λ n b. LeadTo image k n t) → Remains image start budget done s → Remains image start budget (done + suc k) t
 further_of image start budget done k s t (Next n b) is below ih lead r =
@@ -81,10 +76,3 @@ stretched image k s h n at next b same lead turn =
     let after = stretch_more h.image k s (state_at h at) (state_at n next) b before turn in
     let e : k + 1 ≡ suc k = add-one k in
     rw e (subst (λ (p : Picture). IsStretch p (suc k) s (state_at n next) b) same after)
-
-here : (h : Held) (at : ℕ) → address_at h.image at ≡ h.core.pc → state_at h at ≡ state_of h
-here h at e = ap (λ (a : ℕ). moved (state_of h) a) e
-
--- the plain turn, from the quick one
-pub turned : (h n : Held) (at : ℕ) (next : State) (b : Bool) → address_at h.image at ≡ h.core.pc → turn_of h.image (state_at h at) ≡ Next next b → Next next b ≡ turn_of h.image (state_of h)
-turned h n at next b e turn = sym turn ∙ ap (λ (s : State). turn_of h.image s) (here h at e)

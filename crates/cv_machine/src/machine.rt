@@ -138,17 +138,12 @@ impl Machine {
         ensures image { self.new.image ≡ self.old.image }
         ensures point { IsTrue (is_point self.new.image self.new.core.pc) }
     {
-        let at = self.place();
-        match self.quick(at) {
-            Quick::On(next) => {
-                self.stand_at(next);
-                Turn::Next { transfer: false }
-            }
-            Quick::Jump(next) => {
-                self.stand_at(next);
-                Turn::Next { transfer: true }
-            }
-            Quick::Slow => self.other_turn(),
+        let stretch = self.stretch(1);
+        if stretch.turns == 0 {
+            return self.other_turn();
+        }
+        Turn::Next {
+            transfer: stretch.transfer,
         }
     }
 

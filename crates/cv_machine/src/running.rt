@@ -1,9 +1,9 @@
-ghost use Rattle.std.specs.Prelude.{◌≡◌, ◌≤◌, ◌<◌, IsTrue, IfSome, IfNone, length};
+ghost use Rattle.std.specs.Prelude.{◌≡◌, ◌≤◌, ◌<◌, IsTrue, false, length};
 ghost use Rattle.cv_base.specs.Picture.{is_point};
 ghost use Rattle.cv_machine.specs.Answers.{answer_of, left_by, told};
 ghost use Rattle.cv_machine.specs.Held.{state_of};
 ghost use Rattle.cv_machine.specs.PlainTurns.{IsStretch, LeadTo};
-ghost use Rattle.cv_machine.specs.Quick.{address_at, state_at, IsNext, Tells, IsPlace};
+ghost use Rattle.cv_machine.specs.Quick.{address_at, state_at, Tells, IsPlace};
 ghost use Rattle.cv_runs.specs.PlainRun.{steps_from, end_of, state_left};
 ghost use Rattle.cv_runs.specs.PlainTurn.{turn_of};
 
@@ -24,8 +24,8 @@ pub fn run(machine: &mut Machine, budget: u32) -> (End, u32)
     let mut end = End::Budget;
     let mut done = 0;
     'turns: while done < budget {
-        let more = machine.quick_turns(budget - done);
-        done += more;
+        let more = machine.quick_turns(budget - done, true);
+        done += more.turns;
         if done >= budget {
             return (End::Budget, budget);
         }
@@ -57,11 +57,27 @@ impl Machine {
         ensures image { self.new.image ≡ self.old.image }
         ensures point { IsTrue (is_point self.new.image self.new.core.pc) }
     {
+        self.quick_turns(most, false)
+    }
+
+    /// Quick turns up to one that is none, and at most `most`; and up to the first transfer, unless
+    /// `far`. All quick turns are made here: were there a second place, the match of a turn would not be
+    /// inlined into either, and a turn would take twice the instructions.
+    #[inline(never)]
+    pub(crate) fn quick_turns(&mut self, most: u32, far: bool) -> Stretch
+        requires { IsTrue (is_point self.old.image self.old.core.pc) }
+        ensures turns { LeadTo self.old.image result.turns (state_of self.old) (state_of self.new) }
+        ensures stretch { far ≡ false → IsStretch self.old.image result.turns (state_of self.old) (state_of self.new) result.transfer }
+        ensures most { result.turns ≤ most }
+        ensures image { self.new.image ≡ self.old.image }
+        ensures point { IsTrue (is_point self.new.image self.new.core.pc) }
+    {
         let mut at = self.place();
         let mut turns = 0;
         'turns: while turns < most {
             match self.quick(at) {
                 Quick::On(next) => at = next,
+                Quick::Jump(next) if far => at = next,
                 Quick::Jump(next) => {
                     self.stand_at(next);
                     turns += 1;
@@ -85,30 +101,6 @@ impl Machine {
             turns,
             transfer: false,
         }
-    }
-
-    /// Quick turns up to one that is none, and at most `most`: how many.
-    pub(crate) fn quick_turns(&mut self, most: u32) -> u32
-        requires { IsTrue (is_point self.old.image self.old.core.pc) }
-        ensures turns { LeadTo self.old.image result (state_of self.old) (state_of self.new) }
-        ensures most { result ≤ most }
-        ensures image { self.new.image ≡ self.old.image }
-        ensures point { IsTrue (is_point self.new.image self.new.core.pc) }
-    {
-        let mut at = self.place();
-        let mut done = 0;
-        'turns: while done < most {
-            match next_place(self.quick(at)) {
-                Some(next) => at = next,
-                None => {
-                    self.stand_at(at);
-                    return done;
-                }
-            }
-            done += 1;
-        }
-        self.stand_at(at);
-        done
     }
 
     /// The place of the pc.
@@ -144,17 +136,5 @@ impl Machine {
         ensures point { IsTrue (is_point self.new.image self.new.core.pc) }
     {
         self.step(end)
-    }
-}
-
-/// Where a quick turn went.
-#[inline(always)]
-fn next_place(quick: Quick) -> Option<u32>
-    ensures some { IfSome result (IsNext quick) }
-    ensures none { IfNone result (quick ≡ Quick.Slow) }
-{
-    match quick {
-        Quick::On(next) | Quick::Jump(next) => Some(next),
-        Quick::Slow => None,
     }
 }

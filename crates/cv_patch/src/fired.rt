@@ -13,6 +13,9 @@ use std::marker::Model;
 #[derive(Debug, Drop)]
 pub struct Fired {
     rows: Vec<FiredRow>,
+    /// The place of the row that is looked at first, that of the repair that fired last: one that
+    /// fires in a loop often fires alone.
+    last: usize,
 }
 
 impl Model for Fired {
@@ -34,6 +37,7 @@ impl Fired {
     {
         Fired {
             rows: Vec::new(alloc),
+            last: 0,
         }
     }
 
@@ -69,7 +73,10 @@ impl Fired {
         ensures { IfOk result (λ f. f ≡ self.now) }
     {
         let rows = Vec::from_slice(alloc, self.rows.as_slice())?;
-        Ok(Fired { rows })
+        Ok(Fired {
+            rows,
+            last: self.last,
+        })
     }
 
     /// Counts a firing of a repair, whose row has room for it. It takes no memory.
@@ -78,9 +85,23 @@ impl Fired {
         requires room { has_firing_room case index self.old ≡ true }
         ensures { self.new ≡ with_firing case index self.old }
     {
-        let at = place(self.rows.as_slice(), case, index).unwrap();
+        let at = self.row_of(case, index);
         let row = self.rows[at];
         self.rows[at] = fired_once_more(row);
+        self.last = at;
+    }
+
+    // the place of a repair's row
+    fn row_of(&self, case: u32, index: u32) -> usize
+        requires { has_fired self.now case index ≡ true }
+        ensures { StandsAt (is_fired_of case index) self.now result }
+    {
+        if let Some(row) = self.rows.get(self.last) {
+            if row.case == case && row.index == index {
+                return self.last;
+            }
+        }
+        place(self.rows.as_slice(), case, index).unwrap()
     }
 }
 

@@ -14,7 +14,7 @@ use std::marker::Model;
 pub struct Tally {
     rows: Vec<TallyRow>,
     /// The place of the row that is looked at first: candidates at one point, and at points that follow
-    /// each other, mostly have rows that follow each other.
+    /// each other, often have rows that follow each other.
     next: usize,
 }
 
