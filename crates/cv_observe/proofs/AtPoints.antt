@@ -1,13 +1,14 @@
 -- What is kept at a point, with one observation more, and of two lists together.
-use Rattle.std.proofs.Common.{◌≡◌, ℕ, ◌+◌, ◌^◌, ◌<◌, Bool, true, false, ◌&&◌, ◌||◌, List, [], ◌∷◌, ◌++◌, ◌∙◌, refl, sym, ap, subst, length, get_or, take, map, length-append, arith}
-use Rattle.std.proofs.lemmas.List.{map-append}
+use Rattle.std.proofs.Common.{◌≡◌, ℕ, ◌+◌, ◌^◌, ◌<◌, Bool, true, false, ◌&&◌, ◌||◌, List, [], ◌∷◌, ◌++◌, ◌∙◌, refl, sym, ap, subst, length, get_or, set, ◌≢◌, ◌≤◌, get_or-set_other, get_or-set_same, ⊎_elim, take, map, length-append, arith}
+use Rattle.std.proofs.lemmas.Bool.{cases_lt}
+use Rattle.std.proofs.lemmas.List.{map-append, length-set, get_or_default}
 use Rattle.std.proofs.lemmas.List.Elements.{All-append, All-from_recursion}
 use Rattle.std.proofs.Math.Seq.{take-append_seam}
 use Rattle.std.specs.List.{All}
 use Rattle.cv_base.specs.declared.entries.Observation.{Observation}
 use Rattle.cv_base.specs.Registers.{register}
 use Rattle.cv_observe.proofs.AnyOrder.{and_alone, and_joined}
-use Rattle.cv_observe.proofs.EachPlace.{parts_stay}
+use Rattle.cv_observe.proofs.EachPlace.{Each, parts_stay}
 use Rattle.cv_observe.proofs.Narrowing.{ordered_joined}
 use Rattle.cv_observe.specs.AtPoint.{IsPoint, IsRegister, Joins, Sees, numbers_of, offset_of}
 use Rattle.cv_observe.specs.Kept.{IsFew}
@@ -35,6 +36,53 @@ ordered_more w here o a b =
 -- a vector after a write of all its elements
 pub refilled : {X : Type 0} (n : ℕ) (list rest : List X) → length list ≡ n → take n (list ++ rest) ≡ list
 refilled n list rest long = ap (λ k. take k (list ++ rest)) (sym long) ∙ take-append_seam list rest
+
+-- the registers below a place are seen once more, and the others are left
+abbrev pub SeenTo : List ℕ → List Register → ℕ → List Register → Type 0
+SeenTo regs old n list = Each (λ x a b. Sees a b regs) old n list
+
+pub numbers_stay : (regs : List ℕ) (old : List Register) (n : ℕ) (list : List Register) → SeenTo regs old n list → All (λ r. r.number < 32) old → All (λ r. r.number < 32) list
+numbers_stay regs old n list each all x d within =
+    let long = each.length in
+    let below = all x d (omega arith) in
+    ⊎_elim
+    (λ low. let same = (each.done x low d).number in omega arith)
+    (λ high. let same = ap (λ (k : Register). k.number) (each.left x high d) in omega arith)
+    (cases_lt x n)
+
+-- those from a place up to another one are seen once more, and the others are left
+pub record SeenFrom (regs : List ℕ) (old : List Register) (from n : ℕ) (list : List Register) : Type 0 where
+  pub length : length list ≡ length old
+  pub before : (x : ℕ) (d : Register) → x < from → get_or list x d ≡ get_or old x d
+  pub done : (x : ℕ) (d : Register) → from ≤ x → x < n → Sees (get_or old x d) (get_or list x d) regs
+  pub left : (x : ℕ) (d : Register) → n ≤ x → get_or list x d ≡ get_or old x d
+
+module _ (regs : List ℕ) (old : List Register) (from : ℕ) where
+  pub seen_from_none : SeenFrom regs old from from old
+  seen_from_none = record { length = refl; before = λ x d h. refl; done = λ x d h g. absurd (omega arith); left = λ x d h. refl }
+
+  pub seen_from_more : (n : ℕ) (list : List Register) (e y : Register) → from ≤ n → n < length list → SeenFrom regs old from n list → Sees (get_or list n e) y regs → SeenFrom regs old from (n + 1) (set list n y)
+  seen_from_more n list e y above within seen changed = record {
+    length = length-set list n y ∙ seen.length;
+    before = λ x d h. let ne : x ≢ n = omega arith in get_or-set_other list n x y d ne ∙ seen.before x d h;
+    done = λ x d h g.
+        ⊎_elim
+        (λ low. let ne : x ≢ n = omega arith in subst (λ b. Sees (get_or old x d) b regs) (sym (get_or-set_other list n x y d ne)) (seen.done x d h low))
+        (λ high.
+        let same : n ≡ x = omega arith in
+        let here : get_or list n e ≡ get_or old n d = get_or_default list n e d within ∙ seen.left n d (omega arith) in
+        subst (λ k. Sees (get_or old k d) (get_or (set list n y) k d) regs) same
+        (subst (λ b. Sees (get_or old n d) b regs) (sym (get_or-set_same list n y d within)) (subst (λ a. Sees a y regs) here changed)))
+        (cases_lt x n);
+    left = λ x d h. let ne : x ≢ n = omega arith in get_or-set_other list n x y d ne ∙ seen.left x d (omega arith);
+  }
+
+  pub number_there : (n : ℕ) (list : List Register) (e : Register) → n < length list → SeenFrom regs old from n list → All (λ r. r.number < 32) old → (get_or list n e).number < 32
+  number_there n list e within seen all =
+      let long = seen.length in
+      let below = all n e (omega arith) in
+      let same = ap (λ (k : Register). k.number) (seen.left n e (omega arith)) in
+      omega arith
 
 module _ (old list : List Register) (regs : List ℕ) (long : length list ≡ length old) (each : (x : ℕ) (d : Register) → x < length old → Sees (get_or old x d) (get_or list x d) regs) where
   pub sees_numbers : numbers_of list ≡ numbers_of old

@@ -1,6 +1,6 @@
 -- The least of some words and the pairs of registers that hold, with one observation more, and of
 -- two lists together.
-use Rattle.std.proofs.Common.{◌≡◌, ℕ, zero, suc, ◌+◌, ◌<◌, ◌≤◌, ◌^◌, Bool, true, false, cond, ◌&&◌, ◌||◌, eqb, min, List, [], ◌∷◌, ◌++◌, ◌∙◌, Some, refl, sym, ap, fold, ⊎_elim, arith}
+use Rattle.std.proofs.Common.{◌≡◌, ℕ, zero, suc, ◌+◌, ◌<◌, ◌≤◌, ◌^◌, Bool, true, false, cond, ◌&&◌, ◌||◌, not, eqb, min, List, [], ◌∷◌, ◌++◌, ◌∙◌, Some, None, refl, sym, ap, fold, ⊎_elim, arith}
 use Rattle.std.proofs.lemmas.Bool.Decides.{nat_tests}
 use Rattle.std.proofs.lemmas.List.Folds.{list_all-append}
 use Rattle.std.proofs.lemmas.List.Sums.{fold-append}
@@ -62,11 +62,35 @@ fold_lesser : (a b : ℕ) (ys : List ℕ) → fold lesser (lesser a b) ys ≡ le
 fold_lesser a b [] = refl
 fold_lesser a b (y ∷ ys) = ap (λ t. fold lesser t ys) (lesser_grouped a b y) ∙ fold_lesser a (lesser b y) ys
 
+not_true : (t : Bool) → not t ≡ true → t ≡ false
+not_true true e = sym e
+not_true false e = refl
+
+not_false : (t : Bool) → not t ≡ false → t ≡ true
+not_false true e = refl
+not_false false e = sym e
+
 -- the least of two lists is the lesser of the leasts
 pub least_joined : (xs ys : List ℕ) → least_of (xs ++ ys) ≡ lesser_of (least_of xs) (least_of ys)
 least_joined [] ys = refl
 least_joined (x ∷ xs) [] = ap Some (fold-append lesser x xs [])
 least_joined (x ∷ xs) (y ∷ ys) = ap Some (fold-append lesser x xs (y ∷ ys) ∙ fold_lesser (fold lesser x xs) y ys)
+
+-- with one number more, by whether it is less than the least so far
+
+module _ (known v : ℕ) (xs : List ℕ) (is : Some known ≡ least_of xs) where
+  pub least_stays : not (signed_lt v known) ≡ true → Some known ≡ least_of (xs ++ v ∷ [])
+  least_stays up =
+      let e : signed_lt v known ≡ false = not_true (signed_lt v known) up in
+      ap Some (sym (take_first known v e)) ∙ ap (λ t. lesser_of t (Some v)) is ∙ sym (least_joined xs (v ∷ []))
+
+  pub least_goes : not (signed_lt v known) ≡ false → Some v ≡ least_of (xs ++ v ∷ [])
+  least_goes down =
+      let e : signed_lt v known ≡ true = not_false (signed_lt v known) down in
+      ap Some (sym (take_second known v e)) ∙ ap (λ t. lesser_of t (Some v)) is ∙ sym (least_joined xs (v ∷ []))
+
+pub least_begins : (v : ℕ) (xs : List ℕ) → None ≡ least_of xs → Some v ≡ least_of (xs ++ v ∷ [])
+least_begins v xs none = ap (λ t. lesser_of t (Some v)) none ∙ sym (least_joined xs (v ∷ []))
 
 -- pairs of two lists
 

@@ -1,11 +1,11 @@
 -- A set of registers: its first member, and a member taken out.
-use Rattle.std.proofs.Common.{◌≡◌, ℕ, ◌*◌, ◌%◌, ◌-◌, ◌^◌, ◌<◌, ◌≤◌, Bool, true, false, ◌&&◌, ◌||◌, not, eqb, ◌==◌, ◌∙◌, refl, ap, sym, ⊎_elim, arith}
+use Rattle.std.proofs.Common.{◌≡◌, ℕ, zero, suc, max, ◌*◌, ◌%◌, ◌-◌, ◌^◌, ◌<◌, ◌≤◌, Bool, true, false, ◌&&◌, ◌||◌, not, eqb, ◌==◌, ◌∙◌, refl, ap, sym, ⊎_elim, arith}
 use Rattle.std.proofs.lemmas.Bool.{cases_eq, cases_lt}
 use Rattle.std.proofs.lemmas.Bool.Decides.{nat_tests}
 use Rattle.std.proofs.lemmas.Nat.{and_le_l}
-use Rattle.std.proofs.lemmas.Nat.Bits.{bit_at-trailing_zeros, bit_at_clear_same, bit_at_clear_other, bit_at_above}
+use Rattle.std.proofs.lemmas.Nat.Bits.{bit_at-trailing_zeros, bit_at_clear_same, bit_at_clear_other, bit_at_above, bit_at_or, bit_at-lt}
 use Rattle.std.specs.Int.{bit_at, trailing_zeros, w32}
-use Rattle.std.specs.Int.Bits.{bit_and}
+use Rattle.std.specs.Int.Bits.{bit_and, bit_or}
 use Rattle.cv_isa.specs.Uses.{has}
 use Rattle.cv_isa.specs.declared.registers.RegSet.{RegSet}
 use Rattle.cv_observe.proofs.Narrowing.{and_false, last_test, or_alone}
@@ -55,6 +55,23 @@ module _ (set : RegSet) (small : set.bits < 2 ^ 32) where
         (λ less. less)
         (λ all. absurd (there_not there all))
         (cases_lt rest set.bits)
+
+-- ---- two sets together
+
+bits_either : (x y : ℕ) → x < 2 → y < 2 → eqb (max x y) 1 ≡ (eqb x 1 || eqb y 1)
+bits_either zero zero hx hy = refl
+bits_either zero (suc zero) hx hy = refl
+bits_either zero (suc (suc y)) hx hy = absurd (omega arith)
+bits_either (suc zero) zero hx hy = refl
+bits_either (suc zero) (suc zero) hx hy = refl
+bits_either (suc zero) (suc (suc y)) hx hy = absurd (omega arith)
+bits_either (suc (suc x)) y hx hy = absurd (omega arith)
+
+pub either_members : (set other new : RegSet) → new.bits ≡ bit_or set.bits other.bits → (r : ℕ) → has new r ≡ (has set r || has other r)
+either_members set other new is r =
+    ap (λ n. eqb (bit_at n r) 1) is
+    ∙ ap (λ n. eqb n 1) (bit_at_or set.bits other.bits r)
+    ∙ bits_either (bit_at set.bits r) (bit_at other.bits r) (bit_at-lt set.bits r) (bit_at-lt other.bits r)
 
 -- ---- a set narrowed to the members that pass a test, one member after the other
 

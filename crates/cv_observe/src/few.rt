@@ -1,4 +1,4 @@
-ghost use Rattle.std.specs.Prelude.{◌≡◌, ◌≤◌, ◌++◌, [], ◌∷◌, ℕ, List, length, IfSome, IsNone};
+ghost use Rattle.std.specs.Prelude.{◌≡◌, ◌≤◌, ◌++◌, [], ◌∷◌, ℕ, List, length, IfSome, IsNone, true, false};
 ghost use Rattle.std.specs.BTreeSet.{insert_key};
 ghost use Rattle.std.specs.List.{insert};
 ghost use Rattle.std.specs.Ordering.{nat_cmp};
@@ -42,6 +42,15 @@ impl<const N: usize> Few<N> {
         }
     }
 
+    /// Whether nothing changes where a number is added: it is there, or there were more.
+    #[inline]
+    #[tactic(auto, using(crate::proofs::Adding::few_over, crate::proofs::Adding::few_there))]
+    pub(crate) fn has_seen(&self, number: u32) -> bool
+        ensures { result ≡ true → (numbers : List ℕ) → IsFew N self.now.numbers.items self.now.more numbers → IsFew N self.now.numbers.items self.now.more (numbers ++ number ∷ []) }
+    {
+        self.more || is_there(self.numbers.as_slice(), number)
+    }
+
     /// Adds the numbers of another few.
     #[tactic(auto, using(crate::proofs::Adding::join_begun, crate::proofs::Adding::join_more, crate::proofs::Adding::join_done, crate::proofs::Adding::join_over))]
     pub(crate) fn join(&mut self, other: &Few<N>)
@@ -54,6 +63,22 @@ impl<const N: usize> Few<N> {
             self.more = true;
         }
     }
+}
+
+/// Whether a number is among numbers that ascend.
+#[inline]
+fn is_there(numbers: &[u32], number: u32) -> bool
+    ensures { result ≡ true → insert_key nat_cmp numbers.now number ≡ numbers.now }
+{
+    for (at, n) in numbers.iter().enumerate() {
+        if *n == number {
+            return true;
+        }
+        if number < *n {
+            return false;
+        }
+    }
+    false
 }
 
 /// Where a number goes into numbers that ascend; `None` where it is there.

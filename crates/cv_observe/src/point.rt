@@ -1,9 +1,10 @@
-ghost use Rattle.std.specs.Prelude.{◌≡◌, ◌++◌, ◌∷◌, [], ◌<◌, ◌||◌, ℕ, List, Bool, true, false, IfOk, length, slice_index_or};
+ghost use Rattle.std.specs.Prelude.{◌≡◌, ◌++◌, ◌∷◌, [], ◌<◌, ◌≤◌, ◌||◌, ℕ, List, Bool, true, false, IfOk, length, slice_index_or};
 ghost use Rattle.std.specs.List.{All};
 ghost use Rattle.cv_base.specs.declared.entries.Observation.{Observation};
 ghost use Rattle.cv_base.specs.Registers.{register};
 ghost use Rattle.cv_isa.specs.Uses.{has};
 ghost use Rattle.cv_runs.specs.Arithmetic.{minus32};
+ghost use Rattle.cv_observe.specs.Kept.{IsFew};
 ghost use Rattle.cv_observe.specs.AtPoint.{IsPoint, IsRegister, Joins, Sees, numbers_of};
 ghost use Rattle.cv_observe.specs.declared.register.Register.{Register as Kept};
 
@@ -48,10 +49,14 @@ impl Point {
         ensures seen { self.new.seen ≡ true }
         ensures kept { (window : ℕ → Bool) (here : List Observation) (o : Observation) → o.regs ≡ regs.now → o.frame_sp ≡ frame_sp → IsPoint window self.old here → IsPoint window self.new (here ++ o ∷ []) }
     {
-        see_each(self.registers.as_mut_slice(), regs);
-        let offset = offset(regs, frame_sp);
-        self.offsets.add(offset);
         self.seen = true;
+        let offset = offset(regs, frame_sp);
+        see_all(
+            self.registers.as_mut_slice(),
+            &mut self.offsets,
+            regs,
+            offset,
+        );
     }
 
     /// Adds what was seen at the same point by another one.
@@ -106,14 +111,65 @@ fn offset(regs: &Regs, frame_sp: u32) -> u32
     regs.get(2).wrapping_sub(frame_sp)
 }
 
-/// Adds what the registers hold to each.
-fn see_each(list: &mut [Register], regs: &Regs)
+/// Adds what the registers hold to each, and an offset. Mostly that changes next to nothing, so a
+/// quick pass without a call comes first.
+#[inline]
+fn see_all(list: &mut [Register], offsets: &mut Few<1>, regs: &Regs, offset: u32)
     requires { All (λ r. r.number < 32) list.old }
     ensures length { length list.new ≡ length list.old }
     ensures each { (x : ℕ) (d : Kept) → x < length list.old → Sees (slice_index_or list.old x d) (slice_index_or list.new x d) regs.now }
+    ensures offsets { (numbers : List ℕ) → IsFew 1 offsets.old.numbers.items offsets.old.more numbers → IsFew 1 offsets.new.numbers.items offsets.new.more (numbers ++ offset ∷ []) }
+{
+    let done = see_quick(list, regs);
+    if done < list.len() || !offsets.has_seen(offset) {
+        see_whole(list, offsets, done, regs, offset);
+    }
+}
+
+/// Adds what the registers hold to each from a place on, and an offset.
+#[cold]
+#[inline(never)]
+fn see_whole(list: &mut [Register], offsets: &mut Few<1>, from: usize, regs: &Regs, offset: u32)
+    requires numbers { All (λ r. r.number < 32) list.old }
+    requires within { from ≤ length list.old }
+    ensures length { length list.new ≡ length list.old }
+    ensures before { (x : ℕ) (d : Kept) → x < from → slice_index_or list.new x d ≡ slice_index_or list.old x d }
+    ensures each { (x : ℕ) (d : Kept) → from ≤ x → x < length list.old → Sees (slice_index_or list.old x d) (slice_index_or list.new x d) regs.now }
+    ensures offsets { (numbers : List ℕ) → IsFew 1 offsets.old.numbers.items offsets.old.more numbers → IsFew 1 offsets.new.numbers.items offsets.new.more (numbers ++ offset ∷ []) }
+{
+    see_rest(list, from, regs);
+    offsets.add(offset);
+}
+
+/// Adds what the registers hold to the first ones for which that changes at most the least value,
+/// and answers how many they are.
+#[inline]
+fn see_quick(list: &mut [Register], regs: &Regs) -> usize
+    requires { All (λ r. r.number < 32) list.old }
+    ensures length { length list.new ≡ length list.old }
+    ensures within { result ≤ length list.old }
+    ensures numbers { All (λ r. r.number < 32) list.new }
+    ensures done { (x : ℕ) (d : Kept) → x < result → Sees (slice_index_or list.old x d) (slice_index_or list.new x d) regs.now }
+    ensures left { (x : ℕ) (d : Kept) → result ≤ x → slice_index_or list.new x d ≡ slice_index_or list.old x d }
 {
     for (x, register) in list.iter_mut().enumerate() {
-        register.see(regs);
+        if !register.see_quick(regs) {
+            return x;
+        }
+    }
+    list.len()
+}
+
+/// Adds what the registers hold to each from a place on.
+fn see_rest(list: &mut [Register], from: usize, regs: &Regs)
+    requires numbers { All (λ r. r.number < 32) list.old }
+    requires within { from ≤ length list.old }
+    ensures length { length list.new ≡ length list.old }
+    ensures before { (x : ℕ) (d : Kept) → x < from → slice_index_or list.new x d ≡ slice_index_or list.old x d }
+    ensures each { (x : ℕ) (d : Kept) → from ≤ x → x < length list.old → Sees (slice_index_or list.old x d) (slice_index_or list.new x d) regs.now }
+{
+    for x in from..list.len() {
+        list[x].see(regs);
     }
 }
 

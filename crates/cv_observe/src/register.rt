@@ -1,10 +1,10 @@
-ghost use Rattle.std.specs.Prelude.{◌≡◌, ◌++◌, ◌∷◌, [], ◌<◌, ℕ, List, Bool};
+ghost use Rattle.std.specs.Prelude.{◌≡◌, ◌++◌, ◌∷◌, [], ◌<◌, ℕ, List, Bool, true, false};
 ghost use Rattle.cv_base.specs.declared.entries.Observation.{Observation};
 ghost use Rattle.cv_isa.specs.Uses.{has};
-ghost use Rattle.cv_observe.specs.AtPoint.{IsRegister};
+ghost use Rattle.cv_observe.specs.AtPoint.{IsRegister, Sees};
 
 use crate::few::Few;
-use crate::pairs::{at_least, at_most, common, least_of_both};
+use crate::pairs::{are_in_order, at_least, at_most, common, keep_least, least_of_both};
 use cv_base::Regs;
 use cv_isa::RegSet;
 
@@ -44,9 +44,28 @@ impl Register {
     {
         let value = regs.get(self.number);
         self.values.add(value);
-        self.least = least_of_both(self.least, Some(value));
+        keep_least(&mut self.least, value);
         self.above = at_least(self.above, value, regs);
         self.below = at_most(self.below, value, regs);
+    }
+
+    /// Adds what the registers hold, where that changes at most the least value. Else it answers
+    /// false, and nothing is changed.
+    #[inline]
+    pub(crate) fn see_quick(&mut self, regs: &Regs) -> bool
+        requires { self.old.number < 32 }
+        ensures seen { result ≡ true → Sees self.old self.new regs.now }
+        ensures not { result ≡ false → self.new ≡ self.old }
+    {
+        let value = regs.get(self.number);
+        if !self.values.has_seen(value) {
+            return false;
+        }
+        if !are_in_order(self.above, self.below, self.number, value, regs) {
+            return false;
+        }
+        keep_least(&mut self.least, value);
+        true
     }
 
     /// Adds what was seen by another one.

@@ -19,7 +19,7 @@ returns-clause-kept c window here o same is =
     ap (λ n. values_of r here ++ n ∷ []) of ∙ sym (map-append (λ (x : Observation). register x.regs r) here (o ∷ [])) in record {
       values = subst (IsFew 4 c.add.new.self.numbers.items c.add.new.self.more) more (c.add.ensures (values_of r here) is.values);
       words = words_more r v here o of (omega arith) is.words;
-      least = c.least_of_both-self.ensures (values_of r here) (v ∷ []) is.least refl ∙ ap least_of more;
+      least = c.keep_least.ensures (values_of r here) is.least ∙ ap least_of more;
       above = λ b.
           c.at_least-self.ensures b
           ∙ ap (λ t. t && signed_le v (register regs b)) (is.above b)
