@@ -1,31 +1,48 @@
 -- Passes are seated in instances, and taken out again.
 use Rattle.std.proofs.Common.{◌≡◌, ◌≤◌, ◌<◌, ◌+◌, ℕ, zero, suc, List, [], ◌∷◌, ◌++◌, length, map, Option, Some, None, true, refl, sym, ap, ◌∙◌, subst, append-nil, arith}
-use Rattle.std.specs.Prelude.{IsSomeAnd, drop, nat_lt, option_to_list, take}
+use Rattle.std.specs.Prelude.{IfOk, IsSomeAnd, Ok, Result, drop, nat_lt, option_to_list, slice_index_or, take}
 use Rattle.std.specs.List.{AllByRecursion, cons_option, filter_map, list_any}
-use Rattle.std.proofs.lemmas.List.{map-append}
+use Rattle.std.proofs.lemmas.List.{length-map, map-append}
 use Rattle.std.proofs.lemmas.List.Elements.{filter_map-append}
 use Rattle.std.proofs.lemmas.Bool.Decides.{nat_tests}
+use Rattle.cv_base.specs.declared.memory.NoMemory.{NoMemory}
 use Rattle.cv_base.specs.PlanOf.{PlanOf}
 use Rattle.cv_desk.specs.Openings.{SettingOf}
 use Rattle.cv_desk.specs.Passes.{AreDone, AreNew, IsDone, IsNew, IsOf, Sight}
 use Rattle.cv_worker.specs.Instances.{CanDraw, HasMetEnd, InstanceOf, IsOfSetting, IsPassDone, IsReady}
-use Rattle.cv_worker.specs.Seats.{AreOf, AreSeatedIn, IsStart}
+use Rattle.cv_worker.specs.Seats.{AreAllOf, AreOf, AreSeatedIn, IsInstanceOf, IsStart}
 
 -- ---- seated
 
--- one instance more
-pub one_more : (plan : PlanOf) (passes : List Sight) (instances : List InstanceOf) (v : Sight) (i : InstanceOf) → AreOf plan passes instances → i.plan ≡ plan → i.pass ≡ Some v → AreOf plan (passes ++ v ∷ []) (instances ++ i ∷ [])
-one_more plan passes instances v i are of seated = record {
-  plans =
-      map-append (λ (j : InstanceOf). j.plan) instances (i ∷ [])
-      ∙ (ap (λ (l : List PlanOf). l ++ i.plan ∷ []) are.plans ∙ (ap (λ (p : PlanOf). map (λ (x : Sight). plan) passes ++ p ∷ []) of ∙ sym (map-append (λ (x : Sight). plan) passes (v ∷ []))));
-  seated =
-      map-append (λ (j : InstanceOf). j.pass) instances (i ∷ [])
-      ∙ (ap (λ (l : List (Option Sight)). l ++ i.pass ∷ []) are.seated ∙ (ap (λ (p : Option Sight). map (λ (x : Sight). Some x) passes ++ p ∷ []) seated ∙ sym (map-append (λ (x : Sight). Some x) passes (v ∷ []))));
-}
+-- one more was made
+pub one_made : (made : List (Result InstanceOf NoMemory)) (instances : List InstanceOf) (i : InstanceOf) → AreAllOf made instances → AreAllOf (made ++ Ok i ∷ []) (instances ++ i ∷ [])
+one_made made instances i are = ap (λ (l : List (Result InstanceOf NoMemory)). l ++ Ok i ∷ []) are ∙ sym (map-append (λ (j : InstanceOf). Ok j) instances (i ∷ []))
 
-pub none_yet : (plan : PlanOf) → AreOf plan [] []
-none_yet plan = record { plans = refl; seated = refl }
+pub none_made : AreAllOf [] []
+none_made = refl
+
+-- instances that were made, each for the pass at its place
+made_for : (plan : PlanOf) (passes : List Sight) (instances : List InstanceOf) → length instances ≡ length passes
+    → ((k : ℕ) (d : Result InstanceOf NoMemory) (v : Sight) → k < length passes → IfOk (slice_index_or (map (λ (i : InstanceOf). Ok i) instances) k d) (IsInstanceOf plan (slice_index_or passes k v)))
+    → AreOf plan passes instances
+made_for plan [] [] same each = record { plans = refl; seated = refl }
+made_for plan [] (i ∷ instances) same each = absurd (omega arith)
+made_for plan (v ∷ passes) [] same each = absurd (omega arith)
+made_for plan (v ∷ passes) (i ∷ instances) same each =
+    let first : IsInstanceOf plan v i = each 0 (Ok i) v (omega arith) in
+    let rest = made_for plan passes instances (omega arith) (λ k d w below. each (suc k) d w (omega arith)) in
+    record {
+      plans = ap (λ (p : PlanOf). p ∷ map (λ (j : InstanceOf). j.plan) instances) first.of_plan ∙ ap (λ (l : List PlanOf). plan ∷ l) rest.plans;
+      seated = ap (λ (o : Option Sight). o ∷ map (λ (j : InstanceOf). j.pass) instances) first.seated ∙ ap (λ (l : List (Option Sight)). Some v ∷ l) rest.seated;
+    }
+
+pub all_made_for : (plan : PlanOf) (passes : List Sight) (made : List (Result InstanceOf NoMemory)) (instances : List InstanceOf) → length made ≡ length passes
+    → ((k : ℕ) (d : Result InstanceOf NoMemory) (v : Sight) → k < length passes → IfOk (slice_index_or made k d) (IsInstanceOf plan (slice_index_or passes k v)))
+    → AreAllOf made instances
+    → AreOf plan passes instances
+all_made_for plan passes made instances same each are =
+    made_for plan passes instances (sym (length-map instances (λ (i : InstanceOf). Ok i)) ∙ (ap (λ (l : List (Result InstanceOf NoMemory)). length l) (sym are) ∙ same))
+    (λ k d v below. subst (λ (l : List (Result InstanceOf NoMemory)). IfOk (slice_index_or l k d) (IsInstanceOf plan (slice_index_or passes k v))) are (each k d v below))
 
 -- two lists that begin alike
 first_same : {X : Type 0} (x y : X) (xs ys : List X) → x ∷ xs ≡ y ∷ ys → (x ≡ y) × (xs ≡ ys)

@@ -1,5 +1,6 @@
 -- The passes of an office in their instances.
-use Rattle.std.specs.Prelude.{◌≡◌, ℕ, List, length, Option, Some, map}
+use Rattle.std.specs.Prelude.{◌≡◌, ℕ, List, length, Ok, Option, Result, Some, map}
+use Rattle.cv_base.specs.declared.memory.NoMemory.{NoMemory}
 use Rattle.cv_base.specs.PlanOf.{PlanOf}
 use Rattle.cv_desk.specs.Openings.{SettingOf}
 use Rattle.cv_desk.specs.Passes.{AreNew, Sight}
@@ -20,3 +21,12 @@ AreSeatedIn instances passes = map (λ (i : InstanceOf). i.pass) instances ≡ m
 pub record AreOf (plan : PlanOf) (passes : List Sight) (instances : List InstanceOf) : Type 0 where
   pub plans : map (λ (i : InstanceOf). i.plan) instances ≡ map (λ (v : Sight). plan) passes
   pub seated : AreSeatedIn instances passes
+
+-- an instance of a plan, with this pass
+pub record IsInstanceOf (plan : PlanOf) (pass : Sight) (i : InstanceOf) : Type 0 where
+  pub of_plan : i.plan ≡ plan
+  pub seated : i.pass ≡ Some pass
+
+-- each was made, and these are they
+abbrev pub AreAllOf : List (Result InstanceOf NoMemory) → List InstanceOf → Type 0
+AreAllOf made instances = made ≡ map (λ (i : InstanceOf). Ok i) instances

@@ -6,7 +6,7 @@ ghost use Rattle.cv_desk.specs.Openings.{IsUpTo, SettingOf};
 ghost use Rattle.cv_desk.specs.Standing.{IsClosed};
 ghost use Rattle.cv_histories.specs.Legal.{IsLegal, IsWhole};
 ghost use Rattle.cv_worker.specs.Instances.{HasMetEnd, InstanceOf, IsOfSetting, IsReady};
-ghost use Rattle.cv_worker.specs.Seats.{AreOf, IsStart};
+ghost use Rattle.cv_worker.specs.Seats.{AreAllOf, AreOf, IsInstanceOf, IsStart};
 
 use crate::instance::Instance;
 use crate::rounds::round as run_round;
@@ -18,6 +18,7 @@ use cv_office::Named;
 use std::alloc::Global;
 use std::marker::Brand;
 use std::sync::Wait;
+use std::thread;
 use std::thread::Threads;
 
 /// Runs all rounds of a plan, each by as many instances as the plan has workers: every run of the plan
@@ -96,7 +97,7 @@ fn close<N: Named + Send + Sync, R: Threads + Wait + Sync, G: Gate>(
     ensures { IfOk result (λ b. (s : SettingOf) → IsStart s plan.now round passes.items → IsClosed s b) }
 {
     limits(plan);
-    let instances = instances_for(alloc, plan, passes)?;
+    let instances = instances_for(rt, alloc, plan, passes)?;
     let ended = run_each(rt, alloc, plan, round, &office, instances, gate)?;
     let passes = passes_of(alloc, ended)?;
     Ok(office.close(passes))
@@ -128,20 +129,50 @@ fn run_each<N: Named + Send + Sync, R: Threads + Wait + Sync, G: Gate>(
     Ok(instances)
 }
 
-/// An instance for each pass, which is seated.
-#[tactic(auto, using(crate::proofs::Seating::one_more, crate::proofs::Seating::none_yet))]
-fn instances_for<N: Named>(
+/// An instance for each pass, which is seated. They are made side by side, since to clear the memory of
+/// an arena takes milliseconds.
+fn instances_for<N: Named + Send + Sync, R: Threads + Sync>(
+    rt: &R,
     alloc: Global,
     plan: &Plan,
     passes: Vec<Pass<N>>,
 ) -> Result<Vec<Instance<N>>, NoMemory>
     ensures { IfOk result (λ instances. AreOf plan.now passes.items instances.items) }
 {
+    let made = thread::map_vec(
+        rt,
+        passes,
+        &|pass: Pass<N>| -> Result<Instance<N>, NoMemory>
+            ensures { IfOk result (IsInstanceOf plan.entry.now pass) }
+        { instance_for(alloc, plan, pass) },
+    )?;
+    all_made(alloc, made)
+}
+
+/// An instance in which a pass is seated.
+fn instance_for<N: Named>(
+    alloc: Global,
+    plan: &Plan,
+    pass: Pass<N>,
+) -> Result<Instance<N>, NoMemory>
+    ensures { IfOk result (IsInstanceOf plan.now pass) }
+{
+    let mut instance = Instance::make(alloc, plan)?;
+    instance.seat(pass);
+    Ok(instance)
+}
+
+/// The instances, where each was made.
+#[tactic(auto, using(crate::proofs::Seating::one_made, crate::proofs::Seating::none_made))]
+fn all_made<N: Named>(
+    alloc: Global,
+    made: Vec<Result<Instance<N>, NoMemory>>,
+) -> Result<Vec<Instance<N>>, NoMemory>
+    ensures { IfOk result (λ instances. AreAllOf made.items instances.items) }
+{
     let mut instances = Vec::new(alloc);
-    for pass in passes {
-        let mut instance = Instance::make(alloc, plan)?;
-        instance.seat(pass);
-        instances.push(instance)?;
+    for instance in made {
+        instances.push(instance?)?;
     }
     Ok(instances)
 }
