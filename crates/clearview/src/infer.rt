@@ -17,6 +17,7 @@ use cv_base::{End, Invariant, Items, Mode, NoMemory, Plan};
 use cv_blocks::TextMap;
 use cv_exec::{Arena, mode_of};
 use cv_job::runs_in;
+use cv_laws::runs_are_counted;
 use cv_observe::Summary;
 use std::alloc::Global;
 
@@ -99,11 +100,11 @@ fn end_of_run(alloc: Global, plan: &Plan, run: u32, arena: &mut Arena) -> Result
 }
 
 /// The number of runs of a plan, which has a worker for them.
-#[tactic(auto, using(cv_laws::proofs::RunOrder::count))]
 fn runs_of(plan: &Plan) -> u32
     ensures count { result ≡ length (runs plan.now) }
     ensures worker { 0 < plan.now.workers }
 {
+    runs_are_counted();
     runs_in(plan.rounds.as_slice())
 }
 

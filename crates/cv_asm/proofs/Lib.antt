@@ -4,7 +4,6 @@ pub mod Cutting
 pub mod FirstDefinitions
 pub mod LineLaw
 pub mod ListingLaw
-pub mod Meanings
 pub mod ReadBack
 pub mod ShapeFields
 pub mod Sizes

@@ -10,7 +10,7 @@ use Rattle.cv_isa.specs.declared.operation.Op.TheVariants as op
 use Rattle.cv_isa.specs.DecodeTable.{meaning_of, row_of, with_fields}
 use Rattle.cv_isa.specs.Instruction.{Instruction, IsInstruction, IsOfFormat}
 use Rattle.cv_isa.specs.Names.{name_of, op_named, word_of}
-use Rattle.cv_isa.proofs.Inverse.{placed_from_meaning}
+use Rattle.cv_isa.specs.Statements.{MeaningsAreInstructions, OneWordMeans}
 use Rattle.cv_asm.specs.declared.fault.AsmFault.{AsmFault}
 use Rattle.cv_asm.specs.declared.fault.LineFault.{LineFault}
 use Rattle.cv_asm.specs.declared.fault.LineFault.TheVariants.{UnknownName, TooManyWords}
@@ -23,7 +23,6 @@ use Rattle.cv_asm.proofs.Counting.{data_ok}
 use Rattle.cv_asm.proofs.Cutting.{IsPiece, IsQuiet, line_cut, line_read, piece_cut, piece_last, quiet_append, quiet_cons, quiet_piece}
 use Rattle.cv_asm.proofs.FirstDefinitions.{instructions_push}
 use Rattle.cv_asm.proofs.LineLaw.{ReadsAs, reads_as}
-use Rattle.cv_asm.proofs.Meanings.{meaning_known}
 use Rattle.cv_asm.proofs.ReadBack.{data_back, data_piece}
 use Rattle.cv_asm.proofs.ShapeFields.{known_ok, shape_format}
 
@@ -101,61 +100,63 @@ fence_is w i means shown fence =
     some_same : {x y : Instruction} → Some x ≡ Some y → x ≡ y
     some_same e = cc
 
-gives_shown : (w : ℕ) (i : Instruction) (b : Bool) → w < 2 ^ 32 → meaning_of w ≡ Some i → is_other_fence w i ≡ b → Gives (shown_text w (cond b None (Some i))) w
-gives_shown w i true small means other = gives_data w small
-gives_shown w i false small means other =
-    let known : IsInstruction i = meaning_known w small i means in
-    gives_reads w i (sym (placed_from_meaning i w small means)) (is_name i.op)
-    (reads_as (shape_of i.op) i known (subst (λ f. IsOfFormat f i) (shape_format i.op) known.of_format) (fence_is w i means other))
+-- by the laws of words and meanings
+module _ (only : OneWordMeans) (known : MeaningsAreInstructions) where
+  gives_shown : (w : ℕ) (i : Instruction) (b : Bool) → w < 2 ^ 32 → meaning_of w ≡ Some i → is_other_fence w i ≡ b → Gives (shown_text w (cond b None (Some i))) w
+  gives_shown w i true small means other = gives_data w small
+  gives_shown w i false small means other =
+      let is_known : IsInstruction i = known i w small means in
+      gives_reads w i (sym (only i w small means)) (is_name i.op)
+      (reads_as (shape_of i.op) i is_known (subst (λ f. IsOfFormat f i) (shape_format i.op) is_known.of_format) (fence_is w i means other))
 
-gives_meaning : (w : ℕ) (o : Option Instruction) → w < 2 ^ 32 → meaning_of w ≡ o → Gives (shown_text w (shown_as w o)) w
-gives_meaning w None small means = gives_data w small
-gives_meaning w (Some i) small means = gives_shown w i (is_other_fence w i) small means refl
+  gives_meaning : (w : ℕ) (o : Option Instruction) → w < 2 ^ 32 → meaning_of w ≡ o → Gives (shown_text w (shown_as w o)) w
+  gives_meaning w None small means = gives_data w small
+  gives_meaning w (Some i) small means = gives_shown w i (is_other_fence w i) small means refl
 
-gives : (w : ℕ) → w < 2 ^ 32 → Gives (word_text w) w
-unfolding word_text
-gives w small = gives_meaning w (meaning_of w) small refl
+  gives : (w : ℕ) → w < 2 ^ 32 → Gives (word_text w) w
+  unfolding word_text
+  gives w small = gives_meaning w (meaning_of w) small refl
 
--- ---- all lines
+  -- ---- all lines
 
-listing_lines : (ws : List ℕ) → AllByRecursion (λ w. w < 2 ^ 32) ws → map line_of (lines_of (listing_of ws)) ≡ map (λ w. line_of (word_text w)) ws ++ line_of [] ∷ []
-listing_lines [] small = refl
-listing_lines (w ∷ ws) small =
-    let together : (word_text w ++ 10 ∷ []) ++ listing_of ws ≡ word_text w ++ 10 ∷ listing_of ws = simp append_assoc in
-    ap (λ t. map line_of (lines_of t)) together
-    ∙ ap (map line_of) (line_cut (word_text w) (listing_of ws) (gives w small.0).quiet)
-    ∙ ap (λ (ls : List Line). line_of (word_text w) ∷ ls) (listing_lines ws small.1)
+  listing_lines : (ws : List ℕ) → AllByRecursion (λ w. w < 2 ^ 32) ws → map line_of (lines_of (listing_of ws)) ≡ map (λ w. line_of (word_text w)) ws ++ line_of [] ∷ []
+  listing_lines [] small = refl
+  listing_lines (w ∷ ws) small =
+      let together : (word_text w ++ 10 ∷ []) ++ listing_of ws ≡ word_text w ++ 10 ∷ listing_of ws = simp append_assoc in
+      ap (λ t. map line_of (lines_of t)) together
+      ∙ ap (map line_of) (line_cut (word_text w) (listing_of ws) (gives w small.0).quiet)
+      ∙ ap (λ (ls : List Line). line_of (word_text w) ∷ ls) (listing_lines ws small.1)
 
-one_line : (all before : List Line) (w : ℕ) (text : List ℕ) → Gives text w → instructions before < 65536 → line_word all before (line_of text) ≡ Ok (Some w)
-one_line all before w text given few =
-    ap (line_word all before) given.reads
-    ∙ ap (λ (r : Result ℕ LineFault). and_then r (within_limit (instructions before))) (given.means (place_in all) (4 * instructions before))
-    ∙ limit (instructions before) (nat_lt (instructions before) 65536) refl few
-  where
-    limit : (n : ℕ) (b : Bool) → nat_lt n 65536 ≡ b → n < 65536 → ◌≡◌ {A = Result (Option ℕ) LineFault} (cond b (Ok (Some w)) (Err TooManyWords)) (Ok (Some w))
-    limit n true is small = refl
-    limit n false is small = absurd (grind (arith, nat_tests))
+  one_line : (all before : List Line) (w : ℕ) (text : List ℕ) → Gives text w → instructions before < 65536 → line_word all before (line_of text) ≡ Ok (Some w)
+  one_line all before w text given few =
+      ap (line_word all before) given.reads
+      ∙ ap (λ (r : Result ℕ LineFault). and_then r (within_limit (instructions before))) (given.means (place_in all) (4 * instructions before))
+      ∙ limit (instructions before) (nat_lt (instructions before) 65536) refl few
+    where
+      limit : (n : ℕ) (b : Bool) → nat_lt n 65536 ≡ b → n < 65536 → ◌≡◌ {A = Result (Option ℕ) LineFault} (cond b (Ok (Some w)) (Err TooManyWords)) (Ok (Some w))
+      limit n true is small = refl
+      limit n false is small = absurd (grind (arith, nat_tests))
 
-counted : (before : List Line) (w : ℕ) (text : List ℕ) → Gives text w → instructions (before ++ line_of text ∷ []) ≡ instructions before + 1
-counted before w text given =
-    instructions_push before (line_of text) ∙ ap (λ (x : Line). instructions before + cond (nat_lt 0 (length x.code)) 1 0) given.reads
-    ∙ ap (λ b. instructions before + cond b 1 0) some
-  where
-    some : nat_lt 0 (length (given.name ∷ given.operands)) ≡ true
-    some = grind (arith, nat_tests)
+  counted : (before : List Line) (w : ℕ) (text : List ℕ) → Gives text w → instructions (before ++ line_of text ∷ []) ≡ instructions before + 1
+  counted before w text given =
+      instructions_push before (line_of text) ∙ ap (λ (x : Line). instructions before + cond (nat_lt 0 (length x.code)) 1 0) given.reads
+      ∙ ap (λ b. instructions before + cond b 1 0) some
+    where
+      some : nat_lt 0 (length (given.name ∷ given.operands)) ≡ true
+      some = grind (arith, nat_tests)
 
-all_words : (all before : List Line) (ws : List ℕ) → AllByRecursion (λ w. w < 2 ^ 32) ws → instructions before + length ws ≤ 65536
-    → words_after all before (map (λ w. line_of (word_text w)) ws ++ line_of [] ∷ []) ≡ Ok ws
-all_words all before [] small few = refl
-all_words all before (w ∷ ws) small few =
-    let given = gives w small.0 in
-    let first : line_word all before (line_of (word_text w)) ≡ Ok (Some w) = one_line all before w (word_text w) given (omega arith) in
-    let more : instructions (before ++ line_of (word_text w) ∷ []) ≡ instructions before + 1 = counted before w (word_text w) given in
-    let rest : words_after all (before ++ line_of (word_text w) ∷ []) (map (λ v. line_of (word_text v)) ws ++ line_of [] ∷ []) ≡ Ok ws = all_words all (before ++ line_of (word_text w) ∷ []) ws small.1 (omega arith) in
-    ap (λ (r : Result (Option ℕ) LineFault). and_then (on_line (length before + 1) r) (λ word. and_then (words_after all (before ++ line_of (word_text w) ∷ []) (map (λ v. line_of (word_text v)) ws ++ line_of [] ∷ [])) (λ words. Ok (cons_option word words)))) first
-    ∙ ap (λ (r : Result (List ℕ) AsmFault). and_then r (λ words. Ok (w ∷ words))) rest
+  all_words : (all before : List Line) (ws : List ℕ) → AllByRecursion (λ w. w < 2 ^ 32) ws → instructions before + length ws ≤ 65536
+      → words_after all before (map (λ w. line_of (word_text w)) ws ++ line_of [] ∷ []) ≡ Ok ws
+  all_words all before [] small few = refl
+  all_words all before (w ∷ ws) small few =
+      let given = gives w small.0 in
+      let first : line_word all before (line_of (word_text w)) ≡ Ok (Some w) = one_line all before w (word_text w) given (omega arith) in
+      let more : instructions (before ++ line_of (word_text w) ∷ []) ≡ instructions before + 1 = counted before w (word_text w) given in
+      let rest : words_after all (before ++ line_of (word_text w) ∷ []) (map (λ v. line_of (word_text v)) ws ++ line_of [] ∷ []) ≡ Ok ws = all_words all (before ++ line_of (word_text w) ∷ []) ws small.1 (omega arith) in
+      ap (λ (r : Result (Option ℕ) LineFault). and_then (on_line (length before + 1) r) (λ word. and_then (words_after all (before ++ line_of (word_text w) ∷ []) (map (λ v. line_of (word_text v)) ws ++ line_of [] ∷ [])) (λ words. Ok (cons_option word words)))) first
+      ∙ ap (λ (r : Result (List ℕ) AsmFault). and_then r (λ words. Ok (w ∷ words))) rest
 
-pub listing_read : (ws : List ℕ) → AllByRecursion (λ w. w < 2 ^ 32) ws → length ws ≤ 65536 → source_of (listing_of ws) ≡ Ok ws
-listing_read ws small few =
-    let lines = map line_of (lines_of (listing_of ws)) in
-    ap (words_after lines []) (listing_lines ws small) ∙ all_words lines [] ws small (omega arith)
+  pub listing_read : (ws : List ℕ) → AllByRecursion (λ w. w < 2 ^ 32) ws → length ws ≤ 65536 → source_of (listing_of ws) ≡ Ok ws
+  listing_read ws small few =
+      let lines = map line_of (lines_of (listing_of ws)) in
+      ap (words_after lines []) (listing_lines ws small) ∙ all_words lines [] ws small (omega arith)

@@ -13,7 +13,7 @@ use crate::fault::LineFault;
 use crate::labels::Labels;
 use crate::operands::operand;
 use crate::shapes::{Kind, Shape, operand_shape, three_kinds, two_kinds};
-use cv_isa::{Inst, Op, encode, named};
+use cv_isa::{Inst, Op, encode, named, words_of_instructions};
 
 /// The most words that a source may have.
 const MOST_WORDS: u32 = 65_536;
@@ -108,11 +108,11 @@ fn no_fields(shape: Shape) -> Fields
 }
 
 /// The word of an instruction by its fields.
-#[tactic(auto, using(cv_isa::proofs::Inverse::placed_from_meaning))]
 fn word(op: Op, fields: Fields) -> u32
     requires { IsInstruction (with_fields op fields.rd fields.rs1 fields.rs2 fields.imm) }
     ensures { result ≡ word_of (with_fields op fields.rd fields.rs1 fields.rs2 fields.imm) }
 {
+    words_of_instructions();
     encode(&Inst::new(
         op,
         fields.rd as u8,

@@ -9,7 +9,7 @@ use Rattle.cv_base.specs.declared.entries.Entry.{Entry}
 use Rattle.cv_base.specs.PlanOf.{PlanOf}
 use Rattle.cv_histories.specs.Legal.{floor_of, up_to}
 use Rattle.cv_histories.specs.Versions.{newest}
-use Rattle.cv_laws.proofs.Versions.{floor_stays}
+use Rattle.cv_laws.specs.VersionStatements.{FloorStays}
 use Rattle.cv_audit.specs.Floors.{AreFloors, floors_of}
 
 floors_long : (plan : PlanOf) (past : List Entry) → length (floors_of plan past) ≡ length past
@@ -66,9 +66,9 @@ taken plan test history floors k o are within is passes =
     ∙ ap (λ (past : List Entry). floor_of plan test past) (sym (seen_more history k o within is))
 
 -- and one that does not leaves it
-pub left : (plan : PlanOf) (test : Entry → Bool) (history : List Entry) (floor k : ℕ) (o : Entry) → k < length history → o ≡ get_or history k o → test o ≡ false → floor ≡ floor_of plan test (reverse (take k history))
+pub left : FloorStays → (plan : PlanOf) (test : Entry → Bool) (history : List Entry) (floor k : ℕ) (o : Entry) → k < length history → o ≡ get_or history k o → test o ≡ false → floor ≡ floor_of plan test (reverse (take k history))
     → floor ≡ floor_of plan test (reverse (take (k + 1) history))
-left plan test history floor k o within is fails so_far =
+left floor_stays plan test history floor k o within is fails so_far =
     so_far ∙ sym (floor_stays plan test (reverse (take k history)) o fails) ∙ ap (λ (past : List Entry). floor_of plan test past) (sym (seen_more history k o within is))
 
 -- the newest version of a history is the floor behind its last entry

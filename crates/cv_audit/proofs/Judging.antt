@@ -1,17 +1,14 @@
 -- One more entry of a judged history, from what its tests and its run say; and the answers of a judge.
-use Rattle.std.proofs.Common.{◌≡◌, ◌<◌, ◌≤◌, ◌+◌, ◌∙◌, ℕ, false, List, [], ◌∷◌, ◌++◌, length, get_or, take, refl, sym, ap, subst, inl, inr, arith}
+use Rattle.std.proofs.Common.{◌≡◌, ◌<◌, ◌≤◌, ◌+◌, ◌∙◌, ℕ, List, [], ◌∷◌, ◌++◌, length, get_or, take, refl, sym, ap, subst, inl, inr, arith}
 use Rattle.std.proofs.lemmas.List.{length-reverse, length-take-le, take_all}
 use Rattle.std.proofs.lemmas.Option.{slice_get_read}
 use Rattle.std.specs.Prelude.{reverse}
 use Rattle.cv_base.specs.declared.entries.Entry.{Entry}
 use Rattle.cv_base.specs.PlanOf.{PlanOf}
-use Rattle.cv_core.proofs.Room.{has_room}
 use Rattle.cv_histories.specs.Honest.{IsHonest}
 use Rattle.cv_histories.specs.Legal.{IsLegal, IsWhole, MayFollow}
-use Rattle.cv_histories.specs.Runs.{run_at, runs}
 use Rattle.cv_histories.specs.Versions.{ledger, newest}
 use Rattle.cv_manager.specs.ManagerOf.{ManagerOf, empty_manager, with_entry}
-use Rattle.cv_observe.specs.StandsFor.{StandsFor, SummaryOf}
 use Rattle.cv_audit.specs.Clauses.{Breaks}
 use Rattle.cv_audit.specs.Floors.{AreFloors, PassesFirst}
 use Rattle.cv_audit.specs.Judged.{IsBookOf, IsLeast, IsVerdict, IsVerdictOf, IsWrong, before}
@@ -19,11 +16,6 @@ use Rattle.cv_audit.specs.declared.verdict.Verdict.{Verdict}
 use Rattle.cv_audit.specs.declared.verdict.Verdict.TheVariants as verdict
 use Rattle.cv_audit.proofs.Floors.{floors_push, seen_more}
 use Rattle.cv_audit.proofs.Tests.{passes_follow}
-
--- a legal history has no more entries than the plan has runs
-pub few_entries : (plan : PlanOf) (past : List Entry) → IsLegal plan past → length past ≤ length (runs plan)
-few_entries plan [] legal = omega arith
-few_entries plan (e ∷ past) legal = let room = has_room plan past e legal.1 legal.0 in omega arith
 
 -- ---- one more entry
 

@@ -1,7 +1,6 @@
 -- Of one run by one worker there is one honest entry whose versions begin in one way.
 use Rattle.std.proofs.Common.{◌≡◌, ◌+◌, ℕ, suc, zero, Bool, true, false, List, [], ◌∷◌, length, Option, Some, None, refl, sym, ap, ◌∙◌, subst, arith}
-use Rattle.std.proofs.lemmas.Bool.{eqb-true}
-use Rattle.std.specs.Prelude.{◌==◌, if◌then◌else◌, option_map, option_and_then, reverse, slice_get}
+use Rattle.std.specs.Prelude.{if◌then◌else◌, option_map, option_and_then, reverse, slice_get}
 use Rattle.cv_base.specs.declared.ends.End.{End}
 use Rattle.cv_base.specs.declared.entries.Adopted.{Adopted}
 use Rattle.cv_base.specs.declared.entries.Entry.{Entry}
@@ -15,10 +14,10 @@ use Rattle.cv_histories.specs.Flight.{joined}
 use Rattle.cv_histories.specs.Honest.{AreTables, IsLearn, IsLive, IsOfMode}
 use Rattle.cv_histories.specs.Rows.{checks_in, fired_of, firings_in, sites_in, tally_of, written}
 use Rattle.cv_histories.specs.Runs.{Run, run_at}
-use Rattle.cv_laws.proofs.JoinedRows.{rows_are_joined}
-use Rattle.cv_laws.proofs.PatchedSteps.{step_with, table_at, turn_first}
+use Rattle.cv_laws.specs.Statements.{RowsAreJoined}
+use Rattle.cv_laws.specs.TurnStatements.{PatchedTurnFirst, UnderTables, step_with, table_at}
 use Rattle.cv_runs.specs.BlockEntries.{is_entry, since_next}
-use Rattle.cv_runs.specs.PatchedRun.{PatchedStep, Table, entries_in, followed, notes_of, only_if, patched_from, patched_run, patched_turn, steps_of}
+use Rattle.cv_runs.specs.PatchedRun.{PatchedStep, Table, entries_in, followed, notes_of, patched_from, patched_turn, steps_of}
 use Rattle.cv_runs.specs.PlainRun.{end_of, state_left}
 use Rattle.cv_runs.specs.State.{State, Outcome, Next, Ended, start_state}
 use Rattle.cv_audit.specs.Statements.{AgreeSoFar, OneHonestEntry}
@@ -68,14 +67,14 @@ SameFrom image f g k =
     (s : State) (since : Option ℕ) (transferred : Bool) (made : ℕ) (current : Table) (xs ys : List PatchedStep)
     → patched_from image f k s since transferred made current ≡ Some xs → patched_from image g k s since transferred made current ≡ Some ys → xs ≡ ys
 
-by_tables : (image : Picture) (f g : ℕ → Option Table) (k : ℕ) (s : State) (since : Option ℕ) (transferred : Bool) (made : ℕ) (current : Table) (xs ys : List PatchedStep) (o p : Option Table)
+by_tables : PatchedTurnFirst → (image : Picture) (f g : ℕ → Option Table) (k : ℕ) (s : State) (since : Option ℕ) (transferred : Bool) (made : ℕ) (current : Table) (xs ys : List PatchedStep) (o p : Option Table)
     → AgreeAt f g → SameFrom image f g k → table_at f (is_entry since transferred) made current ≡ o → table_at g (is_entry since transferred) made current ≡ p
     → patched_from image f (suc k) s since transferred made current ≡ Some xs → patched_from image g (suc k) s since transferred made current ≡ Some ys → xs ≡ ys
-by_tables image f g k s since transferred made current xs ys None p agree same due also first second =
+by_tables turn_first image f g k s since transferred made current xs ys None p agree same due also first second =
     let none = no_table image f k s since transferred made current due in absurd cc
-by_tables image f g k s since transferred made current xs ys (Some t) None agree same due also first second =
+by_tables turn_first image f g k s since transferred made current xs ys (Some t) None agree same due also first second =
     let none = no_table image g k s since transferred made current also in absurd cc
-by_tables image f g k s since transferred made current xs ys (Some t) (Some u) agree same due also first second =
+by_tables turn_first image f g k s since transferred made current xs ys (Some t) (Some u) agree same due also first second =
     let one : t ≡ u = agree_now f g (is_entry since transferred) made current t u agree due also in
     let enters = is_entry since transferred in
     let o = (patched_turn image t s).outcome in
@@ -92,13 +91,13 @@ no_steps : (image : Picture) (f : ℕ → Option Table) (s : State) (since : Opt
 unfolding patched_from
 no_steps image f s since transferred made current xs is = cc
 
-same_steps : (image : Picture) (f g : ℕ → Option Table) (k : ℕ) → AgreeAt f g → SameFrom image f g k
-same_steps image f g zero agree s since transferred made current xs ys first second =
+same_steps : PatchedTurnFirst → (image : Picture) (f g : ℕ → Option Table) (k : ℕ) → AgreeAt f g → SameFrom image f g k
+same_steps turn_first image f g zero agree s since transferred made current xs ys first second =
     sym (no_steps image f s since transferred made current xs first) ∙ no_steps image g s since transferred made current ys second
-same_steps image f g (suc k) agree s since transferred made current xs ys first second =
-    by_tables image f g k s since transferred made current xs ys
+same_steps turn_first image f g (suc k) agree s since transferred made current xs ys first second =
+    by_tables turn_first image f g k s since transferred made current xs ys
     (table_at f (is_entry since transferred) made current) (table_at g (is_entry since transferred) made current)
-    agree (same_steps image f g k agree) refl refl first second
+    agree (same_steps turn_first image f g k agree) refl refl first second
 
 -- ---- tables of versions
 
@@ -136,25 +135,6 @@ same_versions (v ∷ vs) (w ∷ ws) agree same =
 
 -- ---- entries
 
-record IsRun (image : Picture) (input : List ℕ) (budget : ℕ) (tables : List Table) (steps : List PatchedStep) : Type 0 where
-  ran : patched_from image (slice_get tables) budget (start_state image input) None false 0 [] ≡ Some steps
-  count : entries_in steps ≡ length tables
-
-if_some : (b : Bool) (steps other : List PatchedStep) → (if b then Some other else None) ≡ Some steps → (b ≡ true) × (other ≡ steps)
-if_some true steps other is = (refl, cc)
-if_some false steps other is = absurd cc
-
-only_some : (tables : List Table) (o : Steps) (steps : List PatchedStep) → only_if (λ steps. entries_in steps == length tables) o ≡ Some steps → (o ≡ Some steps) × (entries_in steps ≡ length tables)
-only_some tables None steps is = absurd cc
-only_some tables (Some other) steps is =
-    let both = if_some (entries_in other == length tables) steps other is in
-    (ap Some both.1, ap entries_in (sym both.1) ∙ eqb-true (entries_in other) (length tables) both.0)
-
-is_run : (image : Picture) (input : List ℕ) (budget : ℕ) (tables : List Table) (steps : List PatchedStep) → patched_run image input budget tables ≡ Some steps → IsRun image input budget tables steps
-is_run image input budget tables steps ran =
-    let both = only_some tables (patched_from image (slice_get tables) budget (start_state image input) None false 0 []) steps ran in
-    record { ran = both.0; count = both.1 }
-
 abbrev made_entry : ℕ → ℕ → Mode → List Adopted → End → ℕ → List ℕ → List ℕ → List TallyRow → List FiredRow → Entry
 made_entry run worker mode adopted end turns sites output tally fired = record {
   run = run;
@@ -175,16 +155,16 @@ fields_equal e o run worker mode adopted end turns sites output tally fired =
     let same : made_entry e.run e.worker e.mode e.adopted e.end e.turns e.sites e.output e.tally e.fired ≡ made_entry o.run o.worker o.mode o.adopted o.end o.turns o.sites o.output o.tally o.fired = cc in
     same
 
-live_equal : (plan : PlanOf) (versions : List Table) (input : List ℕ) (e o : Entry) → IsLive plan versions input e → IsLive plan versions input o → e.run ≡ o.run → e.worker ≡ o.worker → e.mode ≡ o.mode → AgreeSoFar (written e.adopted) (written o.adopted) → e ≡ o
-live_equal plan versions input e o one other run worker mode agree =
-    let ran = is_run plan.image input plan.budget one.tables one.steps one.ran in
-    let also = is_run plan.image input plan.budget other.tables other.steps other.ran in
+live_equal : PatchedTurnFirst → RowsAreJoined → UnderTables → (plan : PlanOf) (versions : List Table) (input : List ℕ) (e o : Entry) → IsLive plan versions input e → IsLive plan versions input o → e.run ≡ o.run → e.worker ≡ o.worker → e.mode ≡ o.mode → AgreeSoFar (written e.adopted) (written o.adopted) → e ≡ o
+live_equal turn_first rows_are_joined under_tables plan versions input e o one other run worker mode agree =
+    let ran = under_tables plan.image input plan.budget one.tables one.steps one.ran in
+    let also = under_tables plan.image input plan.budget other.tables other.steps other.ran in
     let steps : one.steps ≡ other.steps =
-    same_steps plan.image (slice_get one.tables) (slice_get other.tables) plan.budget
+    same_steps turn_first plan.image (slice_get one.tables) (slice_get other.tables) plan.budget
     (λ n t u. tables_agree versions (written e.adopted) (written o.adopted) one.tables other.tables n t u one.adopted other.adopted agree)
-    (start_state plan.image input) None false 0 [] one.steps other.steps ran.ran also.ran in
+    (start_state plan.image input) None false 0 [] one.steps other.steps ran.0 also.0 in
     let many : length (written e.adopted) ≡ length (written o.adopted) =
-    as_many versions (written e.adopted) one.tables one.adopted ∙ sym ran.count ∙ ap entries_in steps ∙ also.count ∙ sym (as_many versions (written o.adopted) other.tables other.adopted) in
+    as_many versions (written e.adopted) one.tables one.adopted ∙ sym ran.1 ∙ ap entries_in steps ∙ also.1 ∙ sym (as_many versions (written o.adopted) other.tables other.adopted) in
     let rows : e.adopted ≡ o.adopted =
     sym (rows_are_joined e.adopted one.joined) ∙ ap (λ (vs : List ℕ). reverse (joined (reverse vs))) (same_versions (written e.adopted) (written o.adopted) agree many) ∙ rows_are_joined o.adopted other.joined in
     fields_equal e o run worker mode rows
@@ -200,17 +180,17 @@ learn_equal plan input e o one other run worker mode =
     fields_equal e o run worker mode (one.adopted ∙ sym other.adopted) (one.tells.end ∙ sym other.tells.end) (one.tells.turns ∙ sym other.tells.turns)
     (one.tells.sites ∙ sym other.tells.sites) (one.tells.output ∙ sym other.tells.output) (one.tally ∙ sym other.tally) (one.fired ∙ sym other.fired)
 
-by_mode : (mode : Mode) (plan : PlanOf) (versions : List Table) (input : List ℕ) (e o : Entry) → IsOfMode mode plan versions input e → IsOfMode mode plan versions input o → e.run ≡ o.run → e.worker ≡ o.worker → e.mode ≡ o.mode → AgreeSoFar (written e.adopted) (written o.adopted) → e ≡ o
-by_mode Learn plan versions input e o one other run worker mode agree = learn_equal plan input e o one other run worker mode
-by_mode Live plan versions input e o one other run worker mode agree = live_equal plan versions input e o one other run worker mode agree
+by_mode : PatchedTurnFirst → RowsAreJoined → UnderTables → (mode : Mode) (plan : PlanOf) (versions : List Table) (input : List ℕ) (e o : Entry) → IsOfMode mode plan versions input e → IsOfMode mode plan versions input o → e.run ≡ o.run → e.worker ≡ o.worker → e.mode ≡ o.mode → AgreeSoFar (written e.adopted) (written o.adopted) → e ≡ o
+by_mode turn_first rows_are_joined under_tables Learn plan versions input e o one other run worker mode agree = learn_equal plan input e o one other run worker mode
+by_mode turn_first rows_are_joined under_tables Live plan versions input e o one other run worker mode agree = live_equal turn_first rows_are_joined under_tables plan versions input e o one other run worker mode agree
 
-pub one_honest_entry : OneHonestEntry
-one_honest_entry plan versions e o one other run worker agree =
+pub one_honest_entry : PatchedTurnFirst → RowsAreJoined → UnderTables → OneHonestEntry
+one_honest_entry turn_first rows_are_joined under_tables plan versions e o one other run worker agree =
     let found : run_at plan e.run ≡ run_at plan o.run = ap (run_at plan) run in
     let first = one.of_plan in
     let second = other.of_plan in
     let same : other.run ≡ one.run = cc in
     let modes : o.mode ≡ e.mode = other.mode ∙ ap (λ (r : Run). r.mode) same ∙ sym one.mode in
-    by_mode e.mode plan versions one.run.input e o one.as_it_ran
+    by_mode turn_first rows_are_joined under_tables e.mode plan versions one.run.input e o one.as_it_ran
     (subst (λ (r : Run). IsOfMode e.mode plan versions r.input o) same (subst (λ (mode : Mode). IsOfMode mode plan versions other.run.input o) modes other.as_it_ran))
     run worker (sym modes) agree

@@ -8,7 +8,7 @@ use Rattle.cv_base.specs.declared.plan.Round.{Round}
 use Rattle.cv_base.specs.PlanOf.{PlanOf}
 use Rattle.cv_histories.specs.Legal.{round_in}
 use Rattle.cv_histories.specs.Runs.{Run, run_at, runs_from}
-use Rattle.cv_laws.proofs.RunOrder.{earlier_below}
+use Rattle.cv_laws.specs.RoundStatements.{EarlierIsBelow}
 use Rattle.cv_audit.specs.Clauses.{HasRun}
 
 abbrev run_with : ℕ → Mode → List ℕ → Run
@@ -55,14 +55,14 @@ passed rounds number k left r h is so_far above =
 -- ---- rounds before a run's
 
 -- a run of an earlier round has a lower number than one that the plan has
-below_by : (plan : PlanOf) (k number : ℕ) (o : Option Run) (r : Run) → run_at plan k ≡ o → IsSome o → run_at plan number ≡ Some r → r.round < round_in (run_at plan k) → number < k
-below_by plan k number None r is some at earlier = absurd cc
-below_by plan k number (Some own) r is some at earlier =
+below_by : EarlierIsBelow → (plan : PlanOf) (k number : ℕ) (o : Option Run) (r : Run) → run_at plan k ≡ o → IsSome o → run_at plan number ≡ Some r → r.round < round_in (run_at plan k) → number < k
+below_by earlier_below plan k number None r is some at earlier = absurd cc
+below_by earlier_below plan k number (Some own) r is some at earlier =
     let round : round_in (run_at plan k) ≡ own.round = ap round_in is in
     earlier_below plan k number own r is at (omega arith)
 
-pub earlier_is_below : (plan : PlanOf) (k number : ℕ) (r : Run) → IsSome (run_at plan k) → run_at plan number ≡ Some r → r.round < round_in (run_at plan k) → number < k
-earlier_is_below plan k number r some at earlier = below_by plan k number (run_at plan k) r refl some at earlier
+pub earlier_is_below : EarlierIsBelow → (plan : PlanOf) (k number : ℕ) (r : Run) → IsSome (run_at plan k) → run_at plan number ≡ Some r → r.round < round_in (run_at plan k) → number < k
+earlier_is_below earlier_below plan k number r some at earlier = below_by earlier_below plan k number (run_at plan k) r refl some at earlier
 
 -- a run of an earlier round has its entry, where that was found out of its number
 pub at_run : (plan : PlanOf) (past : List Entry) (number k round : ℕ) (r : Run) → k ≡ number → run_at plan number ≡ Some r → r.round < round → (round_in (run_at plan k) < round → HasRun past k) → HasRun past number

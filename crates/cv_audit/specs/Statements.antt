@@ -1,5 +1,5 @@
--- Laws of the tests and of honest entries (docs/REPAIR.md, "Audit").
-use Rattle.std.specs.Prelude.{◌≡◌, ◌↔◌, ℕ, List, [], ◌∷◌}
+-- Laws of the tests, of honest entries and of entries that are walked through (docs/REPAIR.md, "Audit").
+use Rattle.std.specs.Prelude.{◌≡◌, ◌↔◌, ◌<◌, ◌+◌, ℕ, Contains, List, [], ◌∷◌, get_or, length, reverse, take}
 use Rattle.cv_base.specs.declared.entries.Entry.{Entry}
 use Rattle.cv_base.specs.PlanOf.{PlanOf}
 use Rattle.cv_histories.specs.Honest.{IsHonest}
@@ -28,3 +28,13 @@ abbrev pub OneHonestEntry : Type 0
 OneHonestEntry =
     (plan : PlanOf) (versions : List Table) (e o : Entry) → IsHonest plan versions e → IsHonest plan versions o
     → e.run ≡ o.run → e.worker ≡ o.worker → AgreeSoFar (written e.adopted) (written o.adopted) → e ≡ o
+
+-- the entries up to one are it and those before it, the newest first
+abbrev pub OneMoreEntry : Type 0
+OneMoreEntry =
+    (history : List Entry) (k : ℕ) (o : Entry) → k < length history → o ≡ get_or history k o
+    → reverse (take (k + 1) history) ≡ o ∷ reverse (take k history)
+
+-- the entry at a place is one of them
+abbrev pub EntriesAreContained : Type 0
+EntriesAreContained = (history : List Entry) (k : ℕ) (o : Entry) → k < length history → o ≡ get_or history k o → Contains (reverse history) o

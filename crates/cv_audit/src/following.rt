@@ -8,6 +8,7 @@ ghost use Rattle.cv_histories.specs.Runs.{run_at};
 
 use crate::rows::are_at_least;
 use cv_base::{Entry, Plan};
+use cv_laws::{earlier_is_below, floor_stays};
 
 /// Whether an entry of the history has this run.
 pub(crate) fn has_run(history: &[Entry], run: u32) -> bool
@@ -63,6 +64,7 @@ pub(crate) fn are_rounds_done(plan: &Plan, history: &[Entry], entry: &Entry) -> 
     requires { IsSome (run_at plan.now entry.now.run) }
     ensures { IsTrue result ↔ EarlierRoundsDone plan.now (round_of plan.now entry.now) (reverse history.now) }
 {
+    earlier_is_below();
     let round = round_of(plan, entry.run);
     for run in 0..entry.run {
         if is_missing(plan, history, round, run) {
@@ -100,6 +102,7 @@ fn floor_of_worker(plan: &Plan, history: &[Entry], floors: &[u32], entry: &Entry
     requires { AreFloors plan.now (reverse history.now) floors.now }
     ensures { result ≡ floor_of_worker plan.now (reverse history.now) entry.now }
 {
+    floor_stays();
     let _workers = plan.workers;
     let mut floor = 0;
     for k in 0..history.len() {
@@ -116,6 +119,7 @@ fn floor_of_rounds(plan: &Plan, history: &[Entry], floors: &[u32], entry: &Entry
     requires { AreFloors plan.now (reverse history.now) floors.now }
     ensures { result ≡ floor_of_rounds plan.now (reverse history.now) entry.now }
 {
+    floor_stays();
     let round = round_of(plan, entry.run);
     let mut floor = 0;
     for k in 0..history.len() {

@@ -12,5 +12,5 @@ mod scripted;
 mod verdict;
 
 pub use following::round_of;
-pub use laws::{one_honest_entry, tests_are_following};
+pub use laws::{entries_are_contained, one_honest_entry, one_more_entry, tests_are_following};
 pub use verdict::{Rebuilt, Verdict, audit, missing, rebuild};

@@ -19,6 +19,7 @@ use cv_base::{Entry, NoMemory, Plan};
 use cv_core::Book;
 use cv_exec::{Arena, Record};
 use cv_job::runs_in;
+use cv_laws::{legal_is_few, runs_are_counted};
 use cv_observe::Summary;
 use std::alloc::Global;
 
@@ -90,6 +91,7 @@ fn entries_of(book: &Book) -> u32
     ensures count { result ≡ length book.now.past }
     ensures legal { IsLegal book.now.plan book.now.past }
 {
+    legal_is_few();
     let _runs = runs_of(book.plan());
     book.manager().history().len() as u32
 }
@@ -218,10 +220,10 @@ pub fn missing(book: &Book) -> Option<u32>
 }
 
 /// The number of runs of a plan, whose limits are known where a field of it is read.
-#[tactic(auto, using(cv_laws::proofs::RunOrder::count))]
 fn runs_of(plan: &Plan) -> u32
     ensures count { result ≡ length (runs plan.now) }
     ensures limits { IsPlan plan.now }
 {
+    runs_are_counted();
     runs_in(plan.rounds.as_slice())
 }

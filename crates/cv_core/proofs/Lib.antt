@@ -1,3 +1,2 @@
 pub mod NextEntry
 pub mod Posting
-pub mod Room

@@ -1,5 +1,5 @@
 -- The entry of the next run in order: of a learn run, and of a live run under the newest version.
-use Rattle.std.proofs.Common.{◌≡◌, ◌≤◌, ℕ, zero, suc, List, [], ◌∷◌, ◌++◌, replicate, Option, Some, None, refl, sym, subst, arith}
+use Rattle.std.proofs.Common.{◌≡◌, ◌≤◌, ◌+◌, ℕ, zero, suc, List, [], ◌∷◌, ◌++◌, replicate, Option, Some, None, refl, sym, ap, subst, arith}
 use Rattle.std.specs.Prelude.{IsSomeAnd, option_map}
 use Rattle.std.specs.List.{AllByRecursion}
 use Rattle.cv_base.specs.declared.entries.Adopted.{Adopted}
@@ -13,26 +13,30 @@ use Rattle.cv_histories.specs.Rows.{written}
 use Rattle.cv_histories.specs.Runs.{Run, run_at}
 use Rattle.cv_histories.specs.Seen.{observed_of}
 use Rattle.cv_histories.specs.Versions.{newest}
-use Rattle.cv_laws.proofs.SerialEntry.{learn_ran}
-use Rattle.cv_laws.specs.InOrder.{IsNext}
+use Rattle.cv_laws.specs.InOrder.{AreBelow, IsNext}
+use Rattle.cv_laws.specs.Statements.{LearnEntryIsLearn}
 use Rattle.cv_manager.specs.ManagerOf.{ManagerOf, ledger_in}
 use Rattle.cv_observe.specs.StandsFor.{StandsFor, SummaryOf}
 use Rattle.cv_runs.specs.Learned.{observations}
 use Rattle.cv_core.specs.NewestOf.{NewestOf}
 
+-- one more of them, below the next number
+pub one_more : (k : ℕ) (past : List Entry) (e : Entry) → e.run ≡ k → AreBelow k past → AreBelow (k + 1) (e ∷ past)
+one_more k past e is are = (ap (λ (n : ℕ). n + 1) (sym is), rw is are)
+
 -- ---- learn runs
 
 -- by what a plan has at a number
-learn_next : (plan : PlanOf) (past : List Entry) (k : ℕ) (o : Option Run) (e : Entry) → run_at plan k ≡ o → IsSomeAnd o (λ (r : Run). r.mode ≡ Learn) → option_map (entry_with plan k 0) o ≡ Some e → IsNext plan past k e
-learn_next plan past k None e at learns is = absurd learns
-learn_next plan past k (Some r) e at learns is =
+learn_next : LearnEntryIsLearn → (plan : PlanOf) (past : List Entry) (k : ℕ) (o : Option Run) (e : Entry) → run_at plan k ≡ o → IsSomeAnd o (λ (r : Run). r.mode ≡ Learn) → option_map (entry_with plan k 0) o ≡ Some e → IsNext plan past k e
+learn_next learn_ran plan past k None e at learns is = absurd learns
+learn_next learn_ran plan past k (Some r) e at learns is =
     let same : entry_with plan k 0 r ≡ e = cc in
     subst (λ (o : Entry). IsNext plan past k o) same
     (record { run = refl; worker = refl; newest_alone = tt; honest = record { run = r; of_plan = at; mode = sym learns; as_it_ran = learn_ran plan k r } })
 
 -- as the call of a learn run says it
-pub learn_is_next : (m : ManagerOf) (k : ℕ) (e : Entry) → IsLearnRun m.plan k → entry_by m.plan k 0 ≡ Some e → IsNext m.plan m.past k e
-learn_is_next m k e learns is = learn_next m.plan m.past k (run_at m.plan k) e refl learns is
+pub learn_is_next : LearnEntryIsLearn → (m : ManagerOf) (k : ℕ) (e : Entry) → IsLearnRun m.plan k → entry_by m.plan k 0 ≡ Some e → IsNext m.plan m.past k e
+learn_is_next learn_ran m k e learns is = learn_next learn_ran m.plan m.past k (run_at m.plan k) e refl learns is
 
 -- what was seen in it
 learn_seen : (plan : PlanOf) (o : Option Run) → observations (steps_with plan o) ≡ observed_of plan o

@@ -10,7 +10,7 @@ ghost use Rattle.cv_observe.specs.StandsFor.{StandsFor};
 
 use cv_base::{NoMemory, Plan};
 use cv_exec::Record;
-use cv_laws::legal_is_plain;
+use cv_laws::{followed_has_room, legal_is_plain};
 use cv_manager::{Manager, sites_are_points};
 use cv_observe::Summary;
 use std::alloc::Global;
@@ -89,6 +89,7 @@ impl Book {
         };
         keeps_image(self.manager.plan());
         sites_are_points();
+        followed_has_room();
         match self.manager.post(alloc, entry, summary) {
             Ok(version) => Ok(version),
             Err(_) => Err(Unbooked { outcome }),

@@ -14,7 +14,9 @@ use crate::newest::{Newest, Unwatched};
 use cv_base::{Mode, NoMemory, Plan};
 use cv_exec::{Arena, Record, mode_of};
 use cv_job::runs_in;
-use cv_laws::worker_zero_is_serial;
+use cv_laws::{
+    below_is_whole, learn_entry_is_learn, next_may_follow, runs_are_counted, worker_zero_is_serial,
+};
 use std::alloc::Global;
 
 /// Takes all runs of a plan in order, as worker 0, each live run under the newest version at all its
@@ -29,22 +31,23 @@ pub fn run_in_order(alloc: Global, plan: Plan) -> Result<Book, NoMemory>
     for run in 0..runs_of(book.plan()) {
         take(alloc, &mut book, &mut arena, run)?;
     }
+    below_is_whole();
     worker_zero_is_serial();
     let _legal = book.manager();
     Ok(book)
 }
 
 /// The number of runs of a plan, whose limits are known where a field of it is read.
-#[tactic(auto, using(cv_laws::proofs::RunOrder::count))]
 fn runs_of(plan: &Plan) -> u32
     ensures count { result ≡ length (runs plan.now) }
     ensures limits { IsPlan plan.now }
 {
+    runs_are_counted();
     runs_in(plan.rounds.as_slice())
 }
 
 /// Takes the next run, and posts its entry.
-#[tactic(auto, using(cv_laws::proofs::InOrder::one_more))]
+#[tactic(auto, using(crate::proofs::NextEntry::one_more))]
 fn take(alloc: Global, book: &mut Book, arena: &mut Arena, run: u32) -> Result<(), NoMemory>
     requires plan { arena.old.plan ≡ book.old.plan }
     requires limits { IsPlan book.old.plan }
@@ -56,6 +59,7 @@ fn take(alloc: Global, book: &mut Book, arena: &mut Arena, run: u32) -> Result<(
     ensures plan { arena.new.plan ≡ arena.old.plan }
     ensures same { book.new.plan ≡ book.old.plan }
 {
+    next_may_follow();
     let record = next_record(alloc, book, arena, run)?;
     match book.post(alloc, record, arena.summary()) {
         Ok(_) => Ok(()),
@@ -80,7 +84,7 @@ fn next_record(alloc: Global, book: &Book, arena: &mut Arena, run: u32) -> Resul
 }
 
 /// A learn run of a book's plan.
-#[tactic(auto, using(crate::proofs::NextEntry::learn_is_next, crate::proofs::NextEntry::learn_is_seen))]
+#[tactic(auto, using(crate::proofs::NextEntry::learn_is_seen))]
 fn learn(alloc: Global, book: &Book, arena: &mut Arena, run: u32) -> Result<Record, NoMemory>
     requires plan { arena.old.plan ≡ book.now.plan }
     requires worker { 0 < book.now.plan.workers }
@@ -89,6 +93,7 @@ fn learn(alloc: Global, book: &Book, arena: &mut Arena, run: u32) -> Result<Reco
     ensures seen { OnOk result (StandsFor arena.new.summary (observed_of book.now.plan (run_at book.now.plan run))) }
     ensures plan { arena.new.plan ≡ arena.old.plan }
 {
+    learn_entry_is_learn();
     arena.learn(alloc, book.plan(), run, 0)
 }
 

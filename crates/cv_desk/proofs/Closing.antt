@@ -1,8 +1,9 @@
 -- A book is whole up to its round where each draw has its entry.
-use Rattle.std.proofs.Common.{◌≡◌, ◌<◌, ◌+◌, ℕ, zero, suc, Bool, true, false, List, [], ◌∷◌, ◌++◌, length, Some, sym, ap, ◌∙◌, ⊎_elim, eq-eqb, arith}
+use Rattle.std.proofs.Common.{◌≡◌, ◌<◌, ◌+◌, ℕ, zero, suc, Bool, true, false, List, [], ◌∷◌, ◌++◌, length, Some, refl, sym, ap, ◌∙◌, ⊎_elim, eq-eqb, arith}
 use Rattle.std.specs.Prelude.{◌==◌, if◌then◌else◌, reverse, slice_get}
 use Rattle.std.specs.List.{AllByRecursion}
 use Rattle.std.proofs.lemmas.Bool.{cases_eq, cases_lt, cond-true, lt-ltb, ne_eqb}
+use Rattle.std.proofs.lemmas.List.Elements.{Contains-append_right}
 use Rattle.std.proofs.lemmas.Option.{same_Some, slice_get_within}
 use mathlib.Core.List.{reverse_aux}
 use Rattle.cv_base.specs.declared.entries.Entry.{Entry}
@@ -13,8 +14,9 @@ use Rattle.cv_desk.specs.Standing.{GoesOn, IsClosed, IsDesk}
 use Rattle.cv_histories.specs.Legal.{round_of}
 use Rattle.cv_histories.specs.Runs.{Run, runs}
 use Rattle.cv_histories.specs.World.{numbers_from, numbers_of}
-use Rattle.cv_laws.proofs.Each.{weaker}
-use Rattle.cv_laws.proofs.InOrder.{HasEntry, has_first, has_later}
+use Rattle.cv_laws.specs.Each.{weaker}
+use Rattle.cv_laws.specs.InOrder.{HasEntry}
+use Rattle.cv_laws.specs.RoundStatements.{NumbersAreOfRound}
 use Rattle.cv_manager.specs.ManagerOf.{ManagerOf}
 use Rattle.cv_office.specs.Told.{HasRunsOnce}
 use Rattle.cv_rule.specs.Counts.{below, if_so, posted_of, total}
@@ -64,10 +66,11 @@ module _ (s : SettingOf) where
   has_entry number draw [] (t ∷ ts) goes at some = absurd goes
   has_entry number draw (e ∷ past) (t ∷ ts) goes at some =
       ⊎_elim
-      (λ same. has_first number e past (same_Some e.run number (sym goes.0.run ∙ (ap (slice_get (numbers_of s.plan s.round)) same ∙ at))))
+      (λ same. (e, (0, omega arith, refl), same_Some e.run number (sym goes.0.run ∙ (ap (slice_get (numbers_of s.plan s.round)) same ∙ at))))
       (λ other.
       let none = ap (λ (b : Bool). if_so b 1) (ne_eqb t.draw draw other) in
-      has_later number e past (has_entry number draw past ts goes.1 at (omega arith)))
+      let found = has_entry number draw past ts goes.1 at (omega arith) in
+      (found.0, Contains-append_right (e ∷ []) past found.0 found.1, found.2))
       (cases_eq t.draw draw)
 
   abbrev Behind : List Entry → Type 0
@@ -82,8 +85,8 @@ module _ (s : SettingOf) where
   each_posted [] = tt
   each_posted (t ∷ ts) = (tt, each_posted ts)
 
-  pub up_to_next : (past : List Entry) (book : List Posted) → GoesOn s past (reverse book) → IsUpTo s.plan s.round s.past → ((draw : ℕ) → posted_of draw book ≡ below draw (length (numbers_of s.plan s.round))) → IsUpTo s.plan (s.round + 1) past
-  up_to_next past book goes early once = record {
+  pub up_to_next : NumbersAreOfRound → (past : List Entry) (book : List Posted) → GoesOn s past (reverse book) → IsUpTo s.plan s.round s.past → ((draw : ℕ) → posted_of draw book ≡ below draw (length (numbers_of s.plan s.round))) → IsUpTo s.plan (s.round + 1) past
+  up_to_next numbers_are past book goes early once = record {
     all = λ number run at before.
         ⊎_elim (λ less. has_on s number past (reverse book) goes (early.all number run at less))
         (λ here.
@@ -92,17 +95,17 @@ module _ (s : SettingOf) where
         let counted : 0 < posted_of placed.0 (reverse book) = counts placed.0 (length (numbers_of s.plan s.round)) book (once placed.0) within in
         has_entry number placed.0 past (reverse book) goes placed.1 counted)
         (cases_lt run.round s.round);
-    no_others = all_of s (λ (o : Entry). round_of s.plan o < s.round + 1) (λ (t : Posted). Unit {0}) (λ o t by at _. let here = of_round s o t.draw at in omega arith) past (reverse book) goes
+    no_others = all_of s (λ (o : Entry). round_of s.plan o < s.round + 1) (λ (t : Posted). Unit {0}) (λ o t by at _. let here = of_round s numbers_are o t.draw at in omega arith) past (reverse book) goes
         (weaker (λ (o : Entry). round_of s.plan o < s.round) (λ (o : Entry). round_of s.plan o < s.round + 1) (λ o low. omega arith) s.past early.no_others) (each_posted (reverse book));
   }
 
 -- a desk whose draws all have their entries
-pub closed : (book : ManagerOf) (v w : Sight) (d : IsDesk book v) → w.known ≡ v.known → HasRunsOnce (opening_of d.setting) w → IsClosed d.setting book
-closed book v w d known once =
+pub closed : NumbersAreOfRound → (book : ManagerOf) (v w : Sight) (d : IsDesk book v) → w.known ≡ v.known → HasRunsOnce (opening_of d.setting) w → IsClosed d.setting book
+closed numbers_are book v w d known once =
     let more = behind d.setting book.past (reverse v.known.posted) d.entries in
     record {
       plan = d.plan;
       more = more.0;
       behind = more.1;
-      up_to = up_to_next d.setting book.past v.known.posted d.entries d.is_setting.up_to (λ draw. ap (λ k. posted_of draw k.posted) (sym known) ∙ once draw);
+      up_to = up_to_next d.setting numbers_are book.past v.known.posted d.entries d.is_setting.up_to (λ draw. ap (λ k. posted_of draw k.posted) (sym known) ∙ once draw);
     }

@@ -9,9 +9,8 @@ use Rattle.cv_desk.specs.Passes.{AreDone, IsDone, IsOf, IsOfWorker, Sight}
 use Rattle.cv_desk.specs.declared.making.Making.{Making}
 use Rattle.cv_histories.specs.World.{numbers_of}
 use Rattle.cv_office.specs.Told.{IsAlone, IsToldBoth}
-use Rattle.cv_rule.proofs.Versions.{renewed_role}
-use Rattle.cv_rule.proofs.WholeRule.{renewed_hand}
 use Rattle.cv_rule.specs.Counts.{idle_rows, if_so}
+use Rattle.cv_rule.specs.Laws.{RenewedStays}
 use Rattle.cv_rule.specs.Steps.{absent_with, joined, renewed}
 use Rattle.cv_rule.specs.declared.view.Known.{Known}
 use Rattle.cv_rule.specs.declared.view.Role.{Role}
@@ -68,9 +67,9 @@ none_taken s v role absent = record {
 one_absent : (role : Role) (worker : ℕ) (absent : List ℕ) → role ≡ Pass worker → length (absent_with role absent) ≡ length absent + 1
 one_absent role worker absent is = ap (λ (r : Role). length (absent_with r absent)) is ∙ omega arith
 
-module _ (s : SettingOf) (first : Sight) (passes : List Sight) (m p w : Sight) (taken : HasTaken s first passes m) (done : IsDone s p) (worker : ℕ) (of_worker : IsOfWorker worker p) (told : IsToldBoth (joined m p)) (same : w ≡ renewed (joined m p)) (known : w.known ≡ m.known) where
+module _ (stays : RenewedStays Making Table) (s : SettingOf) (first : Sight) (passes : List Sight) (m p w : Sight) (taken : HasTaken s first passes m) (done : IsDone s p) (worker : ℕ) (of_worker : IsOfWorker worker p) (told : IsToldBoth (joined m p)) (same : w ≡ renewed (joined m p)) (known : w.known ≡ m.known) where
   hand : w.hand ≡ m.hand ++ p.hand
-  hand = ap (λ (v : Sight). v.hand) same ∙ renewed_hand Making Table (joined m p)
+  hand = ap (λ (v : Sight). v.hand) same ∙ (stays (joined m p)).hand
 
   absent : length w.absent ≡ length m.absent + 1
   absent = ap (λ (v : Sight). length v.absent) same ∙ (ap (λ (l : List ℕ). length l) (renewed_absent (joined m p)) ∙ one_absent p.role worker m.absent of_worker)
@@ -81,7 +80,7 @@ module _ (s : SettingOf) (first : Sight) (passes : List Sight) (m p w : Sight) (
       let sum = ap (λ (l : List Row). idle_rows runs l) hand in
       let parts = idle_append runs m.hand p.hand in
       record {
-        role = ap (λ (v : Sight). v.role) same ∙ (renewed_role (joined m p) ∙ taken.role);
+        role = ap (λ (v : Sight). v.role) same ∙ ((stays (joined m p)).role ∙ taken.role);
         known = known ∙ taken.known;
         absent = omega (arith, absent, taken.absent, length-append passes (p ∷ []));
         past = λ any.

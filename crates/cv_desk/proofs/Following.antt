@@ -3,6 +3,7 @@ use Rattle.std.proofs.Common.{◌≡◌, ◌≤◌, ◌<◌, ◌+◌, ℕ, zero,
 use Rattle.std.specs.Prelude.{◌≢◌, ◌==◌, cond, nat_lt, reverse, slice_get}
 use Rattle.std.specs.List.{AllByRecursion}
 use Rattle.std.proofs.lemmas.Bool.{cases_lt}
+use Rattle.std.proofs.lemmas.List.Elements.{Contains-append_right}
 use mathlib.Core.List.{reverse_aux}
 use Rattle.cv_base.specs.declared.entries.Adopted.{Adopted}
 use Rattle.cv_base.specs.declared.entries.Entry.{Entry}
@@ -17,10 +18,10 @@ use Rattle.cv_histories.specs.Rows.{written}
 use Rattle.cv_histories.specs.Runs.{run_at}
 use Rattle.cv_histories.specs.Versions.{ledger, newest}
 use Rattle.cv_histories.specs.World.{numbers_of}
-use Rattle.cv_laws.proofs.Each.{weaker}
-use Rattle.cv_laws.proofs.InOrder.{HasEntry, has_later}
-use Rattle.cv_laws.proofs.Rounds.{numbers_are, numbers_rise}
-use Rattle.cv_laws.proofs.Versions.{floor_below, floor_stays}
+use Rattle.cv_laws.specs.Each.{weaker}
+use Rattle.cv_laws.specs.InOrder.{HasEntry}
+use Rattle.cv_laws.specs.RoundStatements.{NumbersAreOfRound, NumbersRise}
+use Rattle.cv_laws.specs.VersionStatements.{FloorIsBelow, FloorStays}
 use Rattle.cv_rule.specs.Counts.{IsAbove, if_so, last_after, last_of, posted_of, version_after}
 use Rattle.cv_rule.specs.Rule.{IsFloor}
 use Rattle.cv_rule.specs.declared.view.Posted.{Posted}
@@ -91,6 +92,13 @@ last_found worker book = last_is worker book []
 
 -- ---- a history that goes on
 
+-- laws on histories: the numbers of a round are those of its runs and rise, and a floor is at most the newest version and stays
+pub record HistoryLaws : Type 0 where
+  pub numbers_are : NumbersAreOfRound
+  pub numbers_rise : NumbersRise
+  pub floor_below : FloorIsBelow
+  pub floor_stays : FloorStays
+
 module _ (s : SettingOf) where
   -- what holds of each entry at the making, and of each that a draw has, holds of all
   pub all_of : (P : Entry → Type 0) (Q : Posted → Type 0)
@@ -104,12 +112,15 @@ module _ (s : SettingOf) where
   pub has_on : (number : ℕ) (past : List Entry) (ts : List Posted) → GoesOn s past ts → HasEntry number s.past → HasEntry number past
   has_on number past [] goes has = subst (λ (l : List Entry). HasEntry number l) (sym goes) has
   has_on number [] (t ∷ ts) goes has = absurd goes
-  has_on number (o ∷ past) (t ∷ ts) goes has = has_later number o past (has_on number past ts goes.1 has)
+  has_on number (o ∷ past) (t ∷ ts) goes has =
+      let found = has_on number past ts goes.1 has in
+      (found.0, Contains-append_right (o ∷ []) past found.0 found.1, found.2)
 
   -- an entry that a draw has is of the round
-  pub of_round : (o : Entry) (draw : ℕ) → slice_get (numbers_of s.plan s.round) draw ≡ Some o.run → round_of s.plan o ≡ s.round
-  of_round o draw at = let of = numbers_are s.plan s.round draw o.run at in ap round_in of.of_plan ∙ of.in_round
+  pub of_round : NumbersAreOfRound → (o : Entry) (draw : ℕ) → slice_get (numbers_of s.plan s.round) draw ≡ Some o.run → round_of s.plan o ≡ s.round
+  of_round numbers_are o draw at = let of = numbers_are s.plan s.round draw o.run at in ap round_in of.of_plan ∙ of.in_round
 
+module _ (laws : HistoryLaws) (s : SettingOf) where
   -- the newest version after a worker's last entry, by whether the last entry is the worker's
   by_last : (worker low : ℕ) (b : Bool) (o : Entry) (past : List Entry) (t : Posted) (ts : List Posted) → t.version ≡ newest s.plan (o ∷ past)
       → (version_after (last_in worker ts) ≤ low → floor_of s.plan (λ (x : Entry). x.worker == worker) past ≤ low)
@@ -122,7 +133,7 @@ module _ (s : SettingOf) where
       → floor_of s.plan (λ (x : Entry). x.worker == worker) past ≤ low
   unfolding last_in
   floor_on worker low past [] goes made last =
-      let below = floor_below s.plan (λ (x : Entry). x.worker == worker) s.past in
+      let below = laws.floor_below s.plan (λ (x : Entry). x.worker == worker) s.past in
       subst (λ (l : List Entry). floor_of s.plan (λ (x : Entry). x.worker == worker) l ≤ low) (sym goes) (omega arith)
   floor_on worker low [] (t ∷ ts) goes made last = absurd goes
   floor_on worker low (o ∷ past) (t ∷ ts) goes made last =
@@ -134,12 +145,12 @@ module _ (s : SettingOf) where
       → floor_of s.plan (λ (o : Entry). nat_lt (round_of s.plan o) round) past ≤ newest s.plan s.past
   rounds_floor round is past [] goes =
       subst (λ (l : List Entry). floor_of s.plan (λ (o : Entry). nat_lt (round_of s.plan o) round) l ≤ newest s.plan s.past) (sym goes)
-      (floor_below s.plan (λ (o : Entry). nat_lt (round_of s.plan o) round) s.past)
+      (laws.floor_below s.plan (λ (o : Entry). nat_lt (round_of s.plan o) round) s.past)
   rounds_floor round is [] (t ∷ ts) goes = absurd goes
   rounds_floor round is (e ∷ past) (t ∷ ts) goes =
-      let here = of_round e t.draw goes.0.run in
+      let here = of_round s laws.numbers_are e t.draw goes.0.run in
       let rest = rounds_floor round is past ts goes.1 in
-      let stays = floor_stays s.plan (λ (o : Entry). nat_lt (round_of s.plan o) round) past e (le-ltb (round_of s.plan e) round (omega arith)) in
+      let stays = laws.floor_stays s.plan (λ (o : Entry). nat_lt (round_of s.plan o) round) past e (le-ltb (round_of s.plan e) round (omega arith)) in
       omega arith
 
 -- ---- the entry of a row
@@ -148,17 +159,17 @@ module _ (s : SettingOf) where
 abbrev pub IsWithinAt : SettingOf → List Entry → List Posted → Row → ℕ → Type 0
 IsWithinAt s past book r v = IsFloor (opening_of s) book r.worker v × (v < length (ledger s.plan past).versions)
 
-module _ (s : SettingOf) (is : IsSetting s) (past : List Entry) (book : List Posted) (goes : GoesOn s past (reverse book)) (e : Entry) (r : Row) (run : slice_get (numbers_of s.plan s.round) r.draw ≡ Some e.run) (worker : e.worker ≡ r.worker) where
+module _ (laws : HistoryLaws) (s : SettingOf) (is : IsSetting s) (past : List Entry) (book : List Posted) (goes : GoesOn s past (reverse book)) (e : Entry) (r : Row) (run : slice_get (numbers_of s.plan s.round) r.draw ≡ Some e.run) (worker : e.worker ≡ r.worker) where
   round_is : round_of s.plan e ≡ s.round
-  round_is = of_round s e r.draw run
+  round_is = of_round s laws.numbers_are e r.draw run
 
   fresh : posted_of r.draw book ≡ 0 → AllByRecursion (λ (o : Entry). o.run ≢ e.run) past
   fresh none =
       all_of s (λ (o : Entry). o.run ≢ e.run) (λ (t : Posted). t.draw ≢ r.draw)
       (λ o t by at differ same.
-      ⊎_elim (λ less. let below = numbers_rise s.plan s.round t.draw r.draw o.run e.run less at run in absurd (omega arith))
+      ⊎_elim (λ less. let below = laws.numbers_rise s.plan s.round t.draw r.draw o.run e.run less at run in absurd (omega arith))
       (λ more.
-      ⊎_elim (λ above. let below = numbers_rise s.plan s.round r.draw t.draw e.run o.run above run at in absurd (omega arith)) (λ least. absurd (differ (omega arith)))
+      ⊎_elim (λ above. let below = laws.numbers_rise s.plan s.round r.draw t.draw e.run o.run above run at in absurd (omega arith)) (λ least. absurd (differ (omega arith)))
       (cases_lt r.draw t.draw))
       (cases_lt t.draw r.draw))
       past (reverse book) goes
@@ -173,7 +184,7 @@ module _ (s : SettingOf) (is : IsSetting s) (past : List Entry) (book : List Pos
   rises : IsAbove book r.worker r.draw → AllByRecursion (λ (o : Entry). round_of s.plan o ≡ round_of s.plan e → o.worker ≡ e.worker → o.run < e.run) past
   rises above =
       all_of s (λ (o : Entry). round_of s.plan o ≡ round_of s.plan e → o.worker ≡ e.worker → o.run < e.run) (λ (t : Posted). t.worker ≡ r.worker → t.draw < r.draw)
-      (λ o t by at less same_round same. numbers_rise s.plan s.round t.draw r.draw o.run e.run (less (sym by ∙ (same ∙ worker))) at run) past (reverse book) goes
+      (λ o t by at less same_round same. laws.numbers_rise s.plan s.round t.draw r.draw o.run e.run (less (sym by ∙ (same ∙ worker))) at run) past (reverse book) goes
       (weaker (λ (o : Entry). round_of s.plan o < s.round) (λ (o : Entry). round_of s.plan o ≡ round_of s.plan e → o.worker ≡ e.worker → o.run < e.run)
       (λ o low same_round same. let here = round_is in absurd (omega arith)) s.past is.up_to.no_others)
       (all_reverse (λ (t : Posted). t.worker ≡ r.worker → t.draw < r.draw) book above)
@@ -184,11 +195,11 @@ module _ (s : SettingOf) (is : IsSetting s) (past : List Entry) (book : List Pos
   above_worker : (low : ℕ) → IsFloor (opening_of s) book r.worker low → floor_of s.plan (λ (o : Entry). o.worker == e.worker) past ≤ low
   above_worker low floor =
       subst (λ (n : ℕ). floor_of s.plan (λ (o : Entry). o.worker == n) past ≤ low) (sym worker)
-      (floor_on s r.worker low past (reverse book) goes floor.0 (subst (λ (f : Option Posted). version_after f ≤ low) (last_found r.worker book) floor.1))
+      (floor_on laws s r.worker low past (reverse book) goes floor.0 (subst (λ (f : Option Posted). version_after f ≤ low) (last_found r.worker book) floor.1))
 
   above_rounds : (low : ℕ) → IsFloor (opening_of s) book r.worker low → floor_of s.plan (λ (o : Entry). nat_lt (round_of s.plan o) (round_of s.plan e)) past ≤ low
   above_rounds low floor =
-      let below = rounds_floor s (round_of s.plan e) round_is past (reverse book) goes in
+      let below = rounds_floor laws s (round_of s.plan e) round_is past (reverse book) goes in
       let made = floor.0 in
       omega arith
 

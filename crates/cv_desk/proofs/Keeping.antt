@@ -11,7 +11,7 @@ use Rattle.cv_desk.specs.declared.making.Making.{Making}
 use Rattle.cv_exec.specs.LiveRun.{Span}
 use Rattle.cv_exec.specs.RecordOf.{RecordOf}
 use Rattle.cv_histories.specs.World.{numbers_of}
-use Rattle.cv_laws.proofs.Each.{weaker}
+use Rattle.cv_laws.specs.Each.{weaker}
 use Rattle.cv_office.specs.Told.{IsPass}
 use Rattle.cv_rule.specs.Steps.{drawn, entered, worker_of}
 use Rattle.cv_rule.specs.declared.view.Opening.{Opening}

@@ -5,12 +5,12 @@ use Rattle.std.proofs.lemmas.List.{append-nil, length-append}
 use Rattle.std.proofs.lemmas.Option.{same_Some}
 use Rattle.cv_base.specs.declared.entries.Entry.{Entry}
 use Rattle.cv_base.specs.PlanOf.{IsPlan, PlanOf}
-use Rattle.cv_core.proofs.Room.{has_room}
 use Rattle.cv_desk.specs.Passes.{Sight}
 use Rattle.cv_desk.specs.Standing.{AreAfter, IsNoted}
 use Rattle.cv_histories.specs.Legal.{IsLegal, MayFollow}
 use Rattle.cv_histories.specs.Versions.{ledger, newest_of, same_table, seen_by, table}
-use Rattle.cv_laws.proofs.RunOrder.{count}
+use Rattle.cv_laws.specs.RoundStatements.{RunsAreCounted}
+use Rattle.cv_laws.specs.Statements.{FollowedHasRoom}
 use Rattle.cv_manager.specs.ManagerOf.{ManagerOf, ledger_in, version_added, with_entry}
 use Rattle.cv_rule.specs.Steps.{announced, booked, entries_of}
 use Rattle.cv_rule.specs.declared.view.Role.TheVariants.{Master}
@@ -70,21 +70,23 @@ few_versions plan (e ∷ past) =
     let l = ledger plan past in
     omega (arith, few_versions plan past, grows_by (same_table (table plan (seen_by l e)) (newest_of l.versions)) l.versions (table plan (seen_by l e)))
 
--- where an entry may follow, there are fewer than 1,025
-room_for : (plan : PlanOf) (past : List Entry) (e : Entry) → IsPlan plan → IsLegal plan past → MayFollow plan past e → length (ledger plan past).versions < 1025
-room_for plan past e limits legal may =
-    omega (arith, few_versions plan past, has_room plan past e legal may, count plan plan.rounds refl, limits.few_runs)
+-- by the laws that a history which goes on has room, and that the rounds have all runs
+module _ (has_room : FollowedHasRoom) (counted : RunsAreCounted) where
+  -- where an entry may follow, there are fewer than 1,025
+  room_for : (plan : PlanOf) (past : List Entry) (e : Entry) → IsPlan plan → IsLegal plan past → MayFollow plan past e → length (ledger plan past).versions < 1025
+  room_for plan past e limits legal may =
+      omega (arith, few_versions plan past, has_room plan past e legal may, counted plan plan.rounds refl, limits.few_runs)
 
-pub are_after : (book : ManagerOf) (e : Entry) → IsPlan book.plan → IsLegal book.plan book.past → MayFollow book.plan book.past e
-    → AreAfter (version_added book e) (ledger_in book).versions (ledger_in (with_entry book e)).versions
-are_after book e limits legal may =
-    let l = ledger_in book in
-    after_by (same_table (table book.plan (seen_by l e)) (newest_of l.versions)) l.versions (table book.plan (seen_by l e)) (room_for book.plan book.past e limits legal may)
+  pub are_after : (book : ManagerOf) (e : Entry) → IsPlan book.plan → IsLegal book.plan book.past → MayFollow book.plan book.past e
+      → AreAfter (version_added book e) (ledger_in book).versions (ledger_in (with_entry book e)).versions
+  are_after book e limits legal may =
+      let l = ledger_in book in
+      after_by (same_table (table book.plan (seen_by l e)) (newest_of l.versions)) l.versions (table book.plan (seen_by l e)) (room_for book.plan book.past e limits legal may)
 
--- as the calls tell it
-pub after_at : (book now : ManagerOf) (e : Entry) (added : Option ℕ) (before : List Table) → IsPlan book.plan → IsLegal book.plan book.past → MayFollow book.plan book.past e
-    → added ≡ version_added book e → now ≡ with_entry book e → before ≡ (ledger_in book).versions → AreAfter added before (ledger_in now).versions
-after_at book now e added before limits legal may is_added is_now is_before =
-    subst (λ (a : Option ℕ). AreAfter a before (ledger_in now).versions) (sym is_added)
-    (subst (λ (l : List Table). AreAfter (version_added book e) l (ledger_in now).versions) (sym is_before)
-    (subst (λ (n : ManagerOf). AreAfter (version_added book e) (ledger_in book).versions (ledger_in n).versions) (sym is_now) (are_after book e limits legal may)))
+  -- as the calls tell it
+  pub after_at : (book now : ManagerOf) (e : Entry) (added : Option ℕ) (before : List Table) → IsPlan book.plan → IsLegal book.plan book.past → MayFollow book.plan book.past e
+      → added ≡ version_added book e → now ≡ with_entry book e → before ≡ (ledger_in book).versions → AreAfter added before (ledger_in now).versions
+  after_at book now e added before limits legal may is_added is_now is_before =
+      subst (λ (a : Option ℕ). AreAfter a before (ledger_in now).versions) (sym is_added)
+      (subst (λ (l : List Table). AreAfter (version_added book e) l (ledger_in now).versions) (sym is_before)
+      (subst (λ (n : ManagerOf). AreAfter (version_added book e) (ledger_in book).versions (ledger_in n).versions) (sym is_now) (are_after book e limits legal may)))

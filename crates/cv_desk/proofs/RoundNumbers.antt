@@ -8,9 +8,9 @@ use Rattle.std.proofs.lemmas.List.Sums.{sum_by-cons}
 use Rattle.cv_base.specs.declared.plan.Mode.{Mode}
 use Rattle.cv_base.specs.declared.plan.Round.{Round}
 use Rattle.cv_base.specs.PlanOf.{PlanOf, runs_of}
-use Rattle.cv_laws.proofs.RunOrder.{count}
 use Rattle.cv_histories.specs.Runs.{Run, runs, runs_from}
 use Rattle.cv_histories.specs.World.{numbers_from, numbers_of}
+use Rattle.cv_laws.specs.RoundStatements.{RunsAreCounted}
 
 -- the runs of a round
 abbrev runs_in : ℕ → Mode → List (List ℕ) → List Run
@@ -81,11 +81,11 @@ numbers_lie plan rounds round r same within is =
     ∙ ap (λ m. range_with_len m (length r.inputs)) (omega arith)
 
 -- they are numbers of its runs
-pub numbers_within : (plan : PlanOf) (rounds : List Round) (round : ℕ) (r : Round) → rounds ≡ plan.rounds → round < length plan.rounds → r ≡ get_or rounds round r
+pub numbers_within : RunsAreCounted → (plan : PlanOf) (rounds : List Round) (round : ℕ) (r : Round) → rounds ≡ plan.rounds → round < length plan.rounds → r ≡ get_or rounds round r
     → runs_of (take round rounds) + length r.inputs ≤ length (runs plan)
-numbers_within plan rounds round r same within is =
-    omega (arith, within_at round rounds r (omega (arith, ap length same)) is, count plan rounds same)
+numbers_within counted plan rounds round r same within is =
+    omega (arith, within_at round rounds r (omega (arith, ap length same)) is, counted plan rounds same)
 
 -- which are few
-pub few_runs : (plan : PlanOf) (rounds : List Round) → rounds ≡ plan.rounds → runs_of rounds ≤ 1024 → length (runs plan) ≤ 1024
-few_runs plan rounds same few = omega (arith, count plan rounds same)
+pub few_runs : RunsAreCounted → (plan : PlanOf) (rounds : List Round) → rounds ≡ plan.rounds → runs_of rounds ≤ 1024 → length (runs plan) ≤ 1024
+few_runs counted plan rounds same few = omega (arith, counted plan rounds same)

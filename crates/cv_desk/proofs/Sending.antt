@@ -1,11 +1,11 @@
 -- What a post needs and leaves, once the pass's row was sent to the master.
-use Rattle.std.proofs.Common.{◌≡◌, ◌<◌, ℕ, List, [], ◌∷◌, ◌++◌, length, Option, Some, None, refl, sym, ap, ◌∙◌, subst, arith}
+use Rattle.std.proofs.Common.{◌≡◌, ◌<◌, ℕ, List, [], ◌∷◌, ◌++◌, length, Option, Some, None, refl, sym, ap, ◌∙◌, subst, append_assoc, arith}
 use Rattle.std.specs.Prelude.{◌-◌, reverse, slice_get}
 use Rattle.std.specs.List.{AllByRecursion}
 use Rattle.std.proofs.lemmas.Option.{same_Some}
 use mathlib.Core.List.{IsPrefix, reverse_aux}
 use Rattle.cv_base.specs.PlanOf.{PlanOf}
-use Rattle.cv_desk.proofs.Following.{IsWithinAt, may_follow}
+use Rattle.cv_desk.proofs.Following.{HistoryLaws, IsWithinAt, may_follow}
 use Rattle.cv_desk.proofs.Telling.{prefix_get}
 use Rattle.cv_desk.specs.Openings.{SettingOf, opening_of}
 use Rattle.cv_desk.specs.Passes.{HasGrown, HasPosted, HasTicket, IsOf, IsOutcome, Sight, TicketOf}
@@ -18,12 +18,11 @@ use Rattle.cv_histories.specs.Legal.{MayFollow, NeverFalls}
 use Rattle.cv_histories.specs.Rows.{written}
 use Rattle.cv_histories.specs.Versions.{ledger, newest}
 use Rattle.cv_histories.specs.World.{numbers_of}
-use Rattle.cv_laws.proofs.Each.{weaker}
+use Rattle.cv_laws.specs.Each.{weaker}
 use Rattle.cv_manager.specs.ManagerOf.{ManagerOf, ledger_in, with_entry}
 use Rattle.cv_office.specs.Told.{IsPass, IsPostable, IsToldBoth}
-use Rattle.cv_rule.proofs.Prefixes.{begins_longer, prefix_append, prefix_trans}
 use Rattle.cv_rule.specs.Counts.{entry_with}
-use Rattle.cv_rule.specs.Laws.{BookedIsFound, IsWithinFloors, LoadedMayBePosted, MayPost, PostSettles}
+use Rattle.cv_rule.specs.Laws.{BookedIsFound, IsWithinFloors, LoadedMayBePosted, LongerBegins, MayPost, PostSettles}
 use Rattle.cv_rule.specs.Steps.{entries_of, first_draw, joined, merging, note_of, renewed, sending, settled_by, way_with, worker_of}
 use Rattle.cv_rule.specs.declared.view.Known.{Known}
 use Rattle.cv_rule.specs.declared.view.Opening.{Opening}
@@ -48,6 +47,10 @@ turned_push (y ∷ xs) x done = turned_push xs x (y ∷ done)
 
 pub reverse_push : {A : Type 0} (xs : List A) (x : A) → reverse (xs ++ x ∷ []) ≡ x ∷ reverse xs
 reverse_push xs x = turned_push xs x []
+
+-- what begins a list begins one that goes on
+begins_more : {A : Type 0} (xs ys more : List A) → IsPrefix xs ys → IsPrefix xs (ys ++ more)
+begins_more xs ys more p = (p.0 ++ more, sym (append_assoc xs p.0 more) ∙ ap (λ (l : List _). l ++ more) p.1)
 
 -- ---- the row was sent
 
@@ -127,11 +130,11 @@ module _ (book : ManagerOf) (m p : Sight) (t : TicketOf) (r : RecordOf) (found :
       (law (opening_of s) found J p row row_is.may_post is.pass.loaded refl (omega arith)))
 
   -- the record's entry may follow
-  pub follows : LoadedMayBePosted Making Table → IsHonestUnder r.plan r.adopted r.entry → NeverFalls r.entry.adopted → MayFollow book.plan book.past r.entry
-  follows law honest falls =
+  pub follows : HistoryLaws → LoadedMayBePosted Making Table → IsHonestUnder r.plan r.adopted r.entry → NeverFalls r.entry.adopted → MayFollow book.plan book.past r.entry
+  follows laws law honest falls =
       let may = row_is.may_post in
       subst (λ (q : PlanOf). MayFollow q book.past r.entry) (sym is.desk.plan)
-      (may_follow s is.desk.is_setting book.past m.known.posted is.desk.entries r.entry row run is.outcome.worker
+      (may_follow laws s is.desk.is_setting book.past m.known.posted is.desk.entries r.entry row run is.outcome.worker
       may.worker may.fresh may.rises
       (subst (λ (q : PlanOf). IsHonest q (ledger s.plan book.past).versions r.entry) plan (honest (ledger s.plan book.past).versions have))
       falls (within law))
@@ -173,7 +176,7 @@ module _ (book : ManagerOf) (m p : Sight) (t : TicketOf) (r : RecordOf) (found :
     pub settles : PostSettles Making Table → BookedIsFound → (z : Sight) → z ≡ renewed (joined (sending p) (note_of w [])) → IsToldBoth (joined (sending p) (note_of w [])) → HasPosted t.draw p z
     settles settle found_law z z_is told =
         let one = triple (ledger_in (with_entry book r.entry)).versions in
-        let begins : IsPrefix p.known.posted w.known.posted = subst (λ (l : List Posted). IsPrefix p.known.posted l) (sym posted_is) (prefix_trans p.known.posted m.known.posted (m.known.posted ++ one ∷ []) is.posted (prefix_append m.known.posted (one ∷ []))) in
+        let begins : IsPrefix p.known.posted w.known.posted = subst (λ (l : List Posted). IsPrefix p.known.posted l) (sym posted_is) (begins_more p.known.posted m.known.posted (one ∷ []) is.posted) in
         let there : entry_with t.draw w.known.posted ≡ Some one = ap (λ (l : List Posted). entry_with t.draw l) posted_is ∙ found_law m.known.posted one row_is.may_post.fresh in
         let settled = settle (sending p) w t.draw one begins (ap (λ (h : List Row). first_draw h) is.ticket.hand) there in
         subst (λ (x : Sight). HasPosted t.draw p x) (sym z_is)
@@ -196,7 +199,7 @@ module _ (book : ManagerOf) (m p : Sight) (t : TicketOf) (r : RecordOf) (found :
     pub floor_is : PostSettles Making Table → BookedIsFound → (z : Sight) → z ≡ renewed (joined (sending p) (note_of w [])) → z.floor ≡ newest book.plan (r.entry ∷ book.past)
     floor_is settle found_law z z_is =
         let one = triple (ledger_in (with_entry book r.entry)).versions in
-        let begins : IsPrefix p.known.posted w.known.posted = subst (λ (l : List Posted). IsPrefix p.known.posted l) (sym posted_is) (prefix_trans p.known.posted m.known.posted (m.known.posted ++ one ∷ []) is.posted (prefix_append m.known.posted (one ∷ []))) in
+        let begins : IsPrefix p.known.posted w.known.posted = subst (λ (l : List Posted). IsPrefix p.known.posted l) (sym posted_is) (begins_more p.known.posted m.known.posted (one ∷ []) is.posted) in
         let there : entry_with t.draw w.known.posted ≡ Some one = ap (λ (l : List Posted). entry_with t.draw l) posted_is ∙ found_law m.known.posted one row_is.may_post.fresh in
         let settled = settle (sending p) w t.draw one begins (ap (λ (h : List Row). first_draw h) is.ticket.hand) there in
         ap (λ (x : Sight). x.floor) z_is ∙ settled.floor
@@ -204,8 +207,8 @@ module _ (book : ManagerOf) (m p : Sight) (t : TicketOf) (r : RecordOf) (found :
   -- ---- where it was refused
 
   -- the pass has its row back
-  pub has_back : (v z : Sight) → v.hand ≡ p.hand → p.on_its_way ≡ None → z ≡ renewed (joined (sending p) (note_of v v.hand)) → HasGrown p z
-  has_back v z hand none z_is =
+  pub has_back : LongerBegins Table → LongerBegins Posted → (v z : Sight) → v.hand ≡ p.hand → p.on_its_way ≡ None → z ≡ renewed (joined (sending p) (note_of v v.hand)) → HasGrown p z
+  has_back tables_begin posts_begin v z hand none z_is =
       let j = joined (sending p) (note_of v v.hand) in
       let way : j.on_its_way ≡ None = ap (λ (h : List Row). way_with h (sending p).on_its_way) (hand ∙ is.ticket.hand) in
       let same : renewed j ≡ merging j = ap (λ (x : Option ℕ). settled_by (merging j) x) way in
@@ -213,8 +216,8 @@ module _ (book : ManagerOf) (m p : Sight) (t : TicketOf) (r : RecordOf) (found :
       (record {
         role = refl;
         opening = refl;
-        versions = begins_longer p.known.versions v.known.versions;
-        posted = begins_longer p.known.posted v.known.posted;
+        versions = tables_begin p.known.versions v.known.versions;
+        posted = posts_begin p.known.posted v.known.posted;
         reach = omega arith;
         hand = hand;
         loaded = refl;

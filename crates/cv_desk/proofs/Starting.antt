@@ -6,14 +6,14 @@ use Rattle.std.proofs.lemmas.Bool.{cases_eq, cases_lt, lt-ltb, ne_eqb}
 use Rattle.std.proofs.lemmas.List.FromFn.{length-range_with_len}
 use Rattle.cv_base.specs.declared.entries.Entry.{Entry}
 use Rattle.cv_base.specs.PlanOf.{IsPlan, PlanOf}
-use Rattle.cv_core.proofs.Room.{has_room}
 use Rattle.cv_desk.proofs.Noting.{few_versions}
 use Rattle.cv_desk.specs.Openings.{SettingOf, opening_of, versions_of, workers_of}
 use Rattle.cv_histories.specs.Legal.{IsLegal}
 use Rattle.cv_histories.specs.Runs.{Run, runs}
 use Rattle.cv_histories.specs.World.{numbers_from}
-use Rattle.cv_laws.proofs.RunOrder.{count}
-use Rattle.cv_laws.proofs.Versions.{some_version}
+use Rattle.cv_laws.specs.RoundStatements.{RunsAreCounted}
+use Rattle.cv_laws.specs.Statements.{LegalIsFew}
+use Rattle.cv_laws.specs.VersionStatements.{SomeVersion}
 use Rattle.cv_office.specs.Told.{IsStart}
 use Rattle.cv_rule.specs.Counts.{below, if_so, times}
 
@@ -65,14 +65,10 @@ few_numbers : (n : ℕ) (rs : List Run) (round : ℕ) → length (numbers_from n
 few_numbers n [] round = omega arith
 few_numbers n (r ∷ rs) round = numbers_by (r.round == round) n (length rs) (numbers_from (n + 1) rs round) (few_numbers (n + 1) rs round)
 
-few_entries : (plan : PlanOf) (past : List Entry) → IsLegal plan past → length past ≤ length (runs plan)
-few_entries plan [] legal = omega arith
-few_entries plan (e ∷ past) legal = let room = has_room plan past e legal.1 legal.0 in omega arith
-
 -- the table's first state
-pub starts : (s : SettingOf) → IsPlan s.plan → IsLegal s.plan s.past → IsStart (opening_of s) (versions_of s) (workers_of s)
-starts s plan legal =
-    let all = count s.plan s.plan.rounds refl in
+pub starts : RunsAreCounted → SomeVersion → LegalIsFew → (s : SettingOf) → IsPlan s.plan → IsLegal s.plan s.past → IsStart (opening_of s) (versions_of s) (workers_of s)
+starts counted some_version few_entries s plan legal =
+    let all = counted s.plan s.plan.rounds refl in
     let few = plan.few_runs in
     let workers = plan.few_workers in
     let runs_few = few_numbers 0 (runs s.plan) s.round in

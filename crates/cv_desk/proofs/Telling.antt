@@ -8,8 +8,8 @@ use Rattle.cv_desk.specs.Standing.{GoesOn, IsDesk}
 use Rattle.cv_desk.specs.declared.making.Making.{Making}
 use Rattle.cv_manager.specs.ManagerOf.{ManagerOf}
 use Rattle.cv_office.specs.Told.{IsMaster, IsToldBoth}
-use Rattle.cv_rule.proofs.Prefixes.{begins_longer}
 use Rattle.cv_rule.specs.Counts.{entry_with}
+use Rattle.cv_rule.specs.Laws.{LongerBegins}
 use Rattle.cv_rule.specs.Steps.{joined, merging, note_of, renewed, settled, settled_by}
 use Rattle.cv_rule.specs.declared.view.Known.{Known}
 use Rattle.cv_rule.specs.declared.view.Posted.{Posted}
@@ -56,25 +56,6 @@ desk_stays book v w d empty known absent = record {
 }
 
 -- ---- the pass
-
--- a note without a row and a load change only what a pass knows, where nothing is on its way for it
-pub told_grown : (p m : Sight) → p.on_its_way ≡ None → HasGrown p (renewed (joined p (note_of m [])))
-told_grown p m none =
-    let j = joined p (note_of m []) in
-    let is : renewed j ≡ merging j = ap (λ (way : Option ℕ). settled_by (merging j) way) none in
-    subst (λ (w : Sight). HasGrown p w) (sym is)
-    (record {
-      role = refl;
-      opening = refl;
-      versions = begins_longer p.known.versions m.known.versions;
-      posted = begins_longer p.known.posted m.known.posted;
-      reach = omega arith;
-      hand = append-nil p.hand;
-      loaded = refl;
-      floor = refl;
-      on_its_way = refl;
-      posts = refl;
-    })
 
 -- the master's list of versions begins that of a pass that was told
 pub told_front : (p m : Sight) → IsToldBoth (joined p (note_of m [])) → IsPrefix m.known.versions (renewed (joined p (note_of m []))).known.versions

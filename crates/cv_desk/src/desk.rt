@@ -17,9 +17,13 @@ use crate::pass::Ticket;
 use cv_base::{NoMemory, PatchTable};
 use cv_core::Book;
 use cv_exec::Record;
+use cv_laws::{
+    floor_is_below, floor_stays, followed_has_room, numbers_are_of_round, numbers_rise,
+    runs_are_counted,
+};
 use cv_observe::Summary;
 use cv_office::{Board, Named, Place, announce, book, give_back, hear, send, tell};
-use cv_rule::{booked_is_found, loaded_may_be_posted, post_settles};
+use cv_rule::{Posted, booked_is_found, loaded_may_be_posted, longer_begins, post_settles};
 use std::alloc::Global;
 use std::marker::{Model, PhantomData};
 use std::sync::Arc;
@@ -111,6 +115,14 @@ impl<N: Named> Desk<N> {
         loaded_may_be_posted::<Making, PatchTable>();
         post_settles::<Making, PatchTable>();
         booked_is_found();
+        longer_begins::<PatchTable>();
+        longer_begins::<Posted>();
+        numbers_are_of_round();
+        numbers_rise();
+        floor_is_below();
+        floor_stays();
+        followed_has_room();
+        runs_are_counted();
         let _honest = outcome.entry();
         limits(&self.book);
         send(board, &mut self.seat, pass);

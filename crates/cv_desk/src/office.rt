@@ -13,7 +13,9 @@ use crate::pass::Pass;
 use crate::rounds::{Numbers, numbers_of};
 use cv_base::PatchTable;
 use cv_core::Book;
+use cv_laws::{legal_is_few, numbers_are_of_round, runs_are_counted, some_version};
 use cv_office::{Board, Named, Place, close, end, open, seat};
+use cv_rule::renewed_stays;
 use std::alloc::{AllocError, Global};
 use std::marker::{Model, PhantomData};
 use std::sync::Mutex;
@@ -62,6 +64,9 @@ impl Draft {
         ensures setting { IfOk result (λ d. d.setting ≡ record { plan = book.plan; past = book.past; round = round }) }
         ensures handed_back { IfErr result (λ unmade. unmade.book ≡ book) }
     {
+        runs_are_counted();
+        some_version();
+        legal_is_few();
         limits(&book);
         let versions = u64::from(book.manager().version_count());
         let setting = Setting { book, round };
@@ -121,6 +126,7 @@ impl<N: Named> Office<N> {
     {
         let Office { board, desk, .. } = self;
         let Desk { book, mut seat, .. } = desk.into_inner();
+        numbers_are_of_round();
         end_all(&board, &mut seat, passes);
         close(board, seat);
         book
@@ -193,6 +199,7 @@ fn end_all<N: Named>(
     ensures known { master.new.me.0.known ≡ master.old.me.0.known }
     ensures alone { (s : SettingOf) → AreDone s passes.items → IsAlone (opening_of s) master.new.me.0 }
 {
+    renewed_stays::<Making, PatchTable>();
     for pass in passes {
         end(board, master, pass.seat);
     }

@@ -5,6 +5,7 @@ ghost use Rattle.cv_histories.specs.World.{numbers_of};
 
 use cv_base::Plan;
 use cv_job::runs_in;
+use cv_laws::runs_are_counted;
 
 /// The numbers of a round's runs, which lie side by side.
 #[derive(Drop)]
@@ -18,6 +19,7 @@ pub(crate) fn numbers_of(plan: &Plan, round: u32) -> Numbers
     ensures numbers { numbers_of plan.now round ≡ range_with_len result.first result.count }
     ensures few { result.first + result.count ≤ 1024 }
 {
+    runs_are_counted();
     let rounds = plan.rounds.as_slice();
     let first = runs_in(&rounds[..round as usize]);
     let count = rounds[round as usize].inputs.as_slice().len() as u32;

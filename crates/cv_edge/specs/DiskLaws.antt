@@ -1,11 +1,32 @@
--- Laws of a disk in memory. They are proofs: nothing here has to be believed.
-use Rattle.std.proofs.Common.{◌≡◌, ◌⊎◌, inl, inr, ℕ, ◌+◌, ◌<◌, ◌≤◌, min, Bool, true, false, List, [], ◌∷◌, ◌++◌, length, take, drop, refl, sym, ap, ◌∙◌, arith, append_assoc, length-append, length-drop, subst}
+-- Laws of disks, and of a disk in memory. They are proofs: nothing here has to be believed.
+use Rattle.std.proofs.Common.{◌≡◌, ◌⊎◌, inl, inr, ℕ, ◌+◌, ◌<◌, ◌≤◌, min, Bool, true, false, List, [], ◌∷◌, ◌++◌, length, take, drop, refl, sym, ap, ◌∙◌, arith, append_assoc, length-append, length-drop, subst, ⊎_elim}
 use Rattle.std.proofs.lemmas.List.{take_min, take_at, drop_at, drop_all, length-take}
 use Rattle.std.proofs.lemmas.Bool.{cases_lt}
-use Rattle.cv_edge.specs.Disk.{written, Torn}
+use Rattle.cv_edge.specs.Disk.{LeavesOnly, Meaning, written, Torn}
 use Rattle.cv_edge.specs.DiskMemory.{content_of, IsImage, IsImageSince}
 use Rattle.cv_edge.specs.declared.mem_disk.Row.{Row}
 use Rattle.cv_edge.specs.declared.mem_disk.Row.TheVariants.{Looked, Wrote, Synced}
+
+module _ {D : Type 0} (means : Meaning D) where
+  -- no call leaves what the images of this moment have
+  pub leaves_none : (old : D) (P : List ℕ → Type 0) → ((c : List ℕ) → means.image_since old (means.moment old) c → P c) → LeavesOnly means old old P
+  leaves_none old P here = record { later = omega arith; each = here; before = λ t c le left. inl left }
+
+  -- calls behind calls leave what both leave
+  pub leaves_then : (a b c : D) (P : List ℕ → Type 0) → LeavesOnly means a b P → LeavesOnly means b c P → LeavesOnly means a c P
+  leaves_then a b c P first second = record {
+    later = omega (arith, first.later, second.later);
+    each = λ x left. ⊎_elim (first.each x) (λ has. has) (second.before (means.moment a) x first.later left);
+    before = λ t x le left. ⊎_elim (first.before t x le) (λ has. inr has) (second.before t x (omega (arith, le, first.later)) left);
+  }
+
+  -- what follows of each image
+  pub leaves_weaker : (a b : D) (P Q : List ℕ → Type 0) → ((c : List ℕ) → P c → Q c) → LeavesOnly means a b P → LeavesOnly means a b Q
+  leaves_weaker a b P Q gives all = record {
+    later = all.later;
+    each = λ c left. gives c (all.each c left);
+    before = λ t c le left. ⊎_elim (λ since. inl since) (λ has. inr (gives c has)) (all.before t c le left);
+  }
 
 -- nothing of a write may be there
 pub torn_none : (at n : ℕ) (old : List ℕ) → Torn at n old old

@@ -4,7 +4,6 @@
 
 mod facts;
 mod jobs;
-mod laws;
 
 pub use facts::{
     after_free, breaks, calls_first, calls_no_point, clears_bit_zero, damaged_return, drill_bad,
@@ -17,4 +16,3 @@ pub use jobs::{
     calling, calling_infers, calling_on, copy_low, kept_after_fail, loop_moderate, no_repairs,
     return_at_end, stack_shift, two_faults, violated_once_and_twice,
 };
-pub use laws::{legal_before, versions_with_one_more};

@@ -2,8 +2,10 @@
 //! legal, and its report; as definitions alone (docs/REPAIR.md).
 #![tactic(auto)]
 
+mod laws;
 mod observed;
 
+pub use laws::{legal_before, versions_with_one_more};
 pub use observed::is_observed;
 
 /// The most cases that a history opens.

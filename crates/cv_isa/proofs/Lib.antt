@@ -1,4 +1,5 @@
 pub mod Inverse
+pub mod Meanings
 pub mod Placing
 pub mod Rows
 pub mod Sets

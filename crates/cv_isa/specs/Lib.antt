@@ -5,4 +5,5 @@ pub mod Encoding
 pub mod Examples
 pub mod Instruction
 pub mod Names
+pub mod Statements
 pub mod Uses

@@ -1,8 +1,7 @@
-ghost use Rattle.std.specs.Prelude.{◌≡◌, ℕ, ◌<◌, ◌^◌, Some};
+ghost use Rattle.std.specs.Prelude.{◌≡◌, Some};
 ghost use Rattle.cv_isa.specs.declared.operation.Op.{Op};
-ghost use Rattle.cv_isa.specs.DecodeTable.{meaning_of};
-ghost use Rattle.cv_isa.specs.Instruction.{Instruction, IsInstruction};
-ghost use Rattle.cv_isa.specs.Names.{name_of, op_named, word_of};
+ghost use Rattle.cv_isa.specs.Names.{name_of, op_named};
+ghost use Rattle.cv_isa.specs.Statements.{MeaningsAreInstructions, OneWordMeans, WordsMean};
 
 use crate::operation::Op;
 
@@ -116,8 +115,9 @@ pub fn names_are_read_back()
 {}
 
 /// A law of words and meanings: the word of an instruction means that instruction, and it is the only
-/// one that does.
+/// one that does; and what a word means has its fields in range.
 pub fn words_of_instructions()
-    ensures means { (i : Instruction) → IsInstruction i → meaning_of (word_of i) ≡ Some i }
-    ensures only { (i : Instruction) (w : ℕ) → w < 2 ^ 32 → meaning_of w ≡ Some i → w ≡ word_of i }
+    ensures means { WordsMean }
+    ensures only { OneWordMeans }
+    ensures known { MeaningsAreInstructions }
 {}

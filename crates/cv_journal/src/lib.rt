@@ -3,6 +3,7 @@
 #![tactic(auto)]
 
 mod faults;
+mod laws;
 mod line;
 mod lists;
 mod names;
@@ -15,5 +16,6 @@ mod tests;
 mod values;
 
 pub use faults::{JournalFail, JournalFault};
+pub use laws::{numbers_are_read_back, pieces_are_some, pieces_join_again};
 pub use line::{lines_read_exactly, read_line};
 pub use report::read_entries;

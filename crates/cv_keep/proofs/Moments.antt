@@ -2,13 +2,10 @@
 use Rattle.std.proofs.Common.{◌≡◌, inl, inr, ⊎_elim, ℕ, ◌≤◌, min, List, length, take, sym, ap, ◌∙◌, arith}
 use Rattle.std.proofs.lemmas.List.{take-take, length-take}
 use Rattle.cv_edge.specs.Disk.{Meaning, Torn, Follows, Elapses, LeavesOnly}
+use Rattle.cv_edge.specs.DiskLaws.{leaves_none, leaves_then}
 use Rattle.cv_keep.specs.Keeping.{Fronts, KeepsFront, Quiet}
 
 module _ {D : Type 0} (means : Meaning D) where
-  -- nothing has happened yet
-  pub no_call : (old : D) (P : List ℕ → Type 0) → ((c : List ℕ) → means.image_since old (means.moment old) c → P c) → LeavesOnly means old old P
-  no_call old P here = record { later = omega arith; each = here; before = λ t c le left. inl left }
-
   -- one call
   pub one_call : ((disk : D) (c : List ℕ) → means.image_since disk (means.moment disk) c → means.image disk c) → (old new : D) (P : List ℕ → Type 0) → Elapses means old new
       → ((c : List ℕ) → means.image old c → P c) → ((c : List ℕ) → means.image new c → P c) → LeavesOnly means old new P
@@ -16,21 +13,6 @@ module _ {D : Type 0} (means : Meaning D) where
     later = time.later;
     each = λ c left. ⊎_elim (λ since. was c (only_now old c since)) (is c) (time.nothing_else (means.moment old) c (omega arith) left);
     before = λ t c le left. ⊎_elim (λ since. inl since) (λ now. inr (is c now)) (time.nothing_else t c le left);
-  }
-
-  -- calls after calls
-  pub then_calls : (a b c : D) (P : List ℕ → Type 0) → LeavesOnly means a b P → LeavesOnly means b c P → LeavesOnly means a c P
-  then_calls a b c P first second = record {
-    later = omega (arith, first.later, second.later);
-    each = λ x left. ⊎_elim (first.each x) (λ has. has) (second.before (means.moment a) x first.later left);
-    before = λ t x le left. ⊎_elim (first.before t x le) (λ has. inr has) (second.before t x (omega (arith, le, first.later)) left);
-  }
-
-  pub weaker : (a b : D) (P Q : List ℕ → Type 0) → ((c : List ℕ) → P c → Q c) → LeavesOnly means a b P → LeavesOnly means a b Q
-  weaker a b P Q gives all = record {
-    later = all.later;
-    each = λ c left. gives c (all.each c left);
-    before = λ t c le left. ⊎_elim (λ since. inl since) (λ has. inr (gives c has)) (all.before t c le left);
   }
 
   -- calls that change nothing, one after another
@@ -66,7 +48,7 @@ module _ {D : Type 0} (means : Meaning D) where
       record { now = now; leaves = one_call only_now old new (λ c. take (length front) c ≡ front) time was now }
 
   pub fronts_then : (a b c : D) (front : List ℕ) → KeepsFront means a b front → KeepsFront means b c front → KeepsFront means a c front
-  fronts_then a b c front first second = record { now = second.now; leaves = then_calls a b c (λ x. take (length front) x ≡ front) first.leaves second.leaves }
+  fronts_then a b c front first second = record { now = second.now; leaves = leaves_then means a b c (λ x. take (length front) x ≡ front) first.leaves second.leaves }
 
 -- each image at a moment from old to now, and each one now, has P
 pub record Stands {D : Type 0} (means : Meaning D) (old now : D) (P : List ℕ → Type 0) : Type 0 where
@@ -75,11 +57,11 @@ pub record Stands {D : Type 0} (means : Meaning D) (old now : D) (P : List ℕ �
 
 module _ {D : Type 0} (means : Meaning D) (only_now : (disk : D) (c : List ℕ) → means.image_since disk (means.moment disk) c → means.image disk c) where
   pub stands_at_first : (old : D) (P : List ℕ → Type 0) → ((c : List ℕ) → means.image old c → P c) → Stands means old old P
-  stands_at_first old P has = record { leaves = no_call means old P (λ c left. has c (only_now old c left)); has = has }
+  stands_at_first old P has = record { leaves = leaves_none means old P (λ c left. has c (only_now old c left)); has = has }
 
   -- one call more
   pub stands_then : (old a b : D) (P : List ℕ → Type 0) → Stands means old a P → Elapses means a b → ((c : List ℕ) → means.image b c → P c) → Stands means old b P
-  stands_then old a b P so_far time has = record { leaves = then_calls means old a b P so_far.leaves (one_call means only_now a b P time so_far.has has); has = has }
+  stands_then old a b P so_far time has = record { leaves = leaves_then means old a b P so_far.leaves (one_call means only_now a b P time so_far.has has); has = has }
 
   -- one call more that makes no new image
   pub stands_still : (old a b : D) (P : List ℕ → Type 0) → Stands means old a P → Elapses means a b → ((c : List ℕ) → means.image b c → means.image a c) → Stands means old b P

@@ -2,9 +2,10 @@
 use Rattle.std.proofs.Common.{◌≡◌, ◌⊎◌, inl, ℕ, ◌+◌, ◌^◌, ◌<◌, ◌≤◌, List, [], ◌∷◌, ◌++◌, length, take, get_or, sym, ap, ◌∙◌, subst, arith}
 use Rattle.std.proofs.lemmas.List.{length-take-le}
 use Rattle.cv_edge.specs.Disk.{Meaning, written, Torn, Follows, Only, Elapses}
+use Rattle.cv_edge.specs.DiskLaws.{leaves_weaker}
 use Rattle.cv_keep.specs.Pieces.{pieces, end_of}
 use Rattle.cv_keep.specs.Keeping.{Settled, IsBeforeOrAfter, Fronts, KeepsFront}
-use Rattle.cv_keep.proofs.Moments.{Stands, stands_at_first, stands_then, weaker}
+use Rattle.cv_keep.proofs.Moments.{Stands, stands_at_first, stands_then}
 use Rattle.cv_keep.proofs.Pieces.{whole}
 use Rattle.cv_keep.proofs.Images.{staged, end_within, front_image, gate_image, gate_open, gate_settled, opened, broken_image, shut_settled}
 
@@ -39,7 +40,7 @@ module _ {D : Type 0} (means : Meaning D) (only_now : (disk : D) (c : List ℕ) 
   framed a keeps =
       let d = means.content old in
       record {
-        leaves = weaker means old a (λ c. take (length (front_of d e)) c ≡ front_of d e) After (λ c same. front_has d e p c s same) keeps.leaves;
+        leaves = leaves_weaker means old a (λ c. take (length (front_of d e)) c ≡ front_of d e) After (λ c same. front_has d e p c s same) keeps.leaves;
         has = λ c is. front_has d e p c s (keeps.now c is);
       }
 

@@ -10,9 +10,10 @@ use Rattle.cv_histories.specs.Versions.{ledger}
 use Rattle.cv_histories.specs.Flight.{Flight, begun}
 use Rattle.cv_histories.specs.World.{World, begin_with, current_round, next_draw, numbers_of, with_flight}
 use Rattle.cv_laws.specs.WorldStands.{IsAhead, IsFlying, WorldStands}
-use Rattle.cv_laws.proofs.Each.{weaker}
+use Rattle.cv_laws.specs.Each.{weaker}
 use Rattle.cv_laws.proofs.Flights.{begun_flies}
-use Rattle.cv_laws.proofs.Rounds.{IsOfRound, numbers_are, numbers_rise}
+use Rattle.cv_laws.specs.RoundStatements.{IsOfRound}
+use Rattle.cv_laws.proofs.RoundNumbers.{numbers_are, numbers_rise}
 use Rattle.cv_laws.proofs.Slots.{IsOneOf, set_has, set_length}
 
 module _ (plan : PlanOf) (w : World) (i : ℕ) (round number : ℕ) (run : Run) (stands : WorldStands plan w) (current : current_round plan w.history ≡ Some round) (drawn : slice_get (numbers_of plan round) w.drawn ≡ Some number) (of_plan : run_at plan number ≡ Some run) where

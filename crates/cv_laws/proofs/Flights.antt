@@ -15,10 +15,11 @@ use Rattle.cv_histories.specs.Rows.{checks_in, firings_in, fired_of, tally_of}
 use Rattle.cv_histories.specs.Runs.{Run, run_at}
 use Rattle.cv_histories.specs.Seen.{is_live}
 use Rattle.cv_histories.specs.Flight.{Flight, at_entry, begun, done_in, entered, flight_entry, flight_turn, has_ended, joined, may_enter, may_turn, turned, turned_by, turned_with}
-use Rattle.cv_laws.proofs.PatchedSteps.{at_seam, entries_in-seam, grows_entered, step_with, table_at}
+use Rattle.cv_laws.proofs.PatchedSteps.{at_seam, entries_in-seam, grows_entered}
+use Rattle.cv_laws.specs.TurnStatements.{step_with, table_at}
 use Rattle.cv_laws.proofs.PatchedSteps
 use Rattle.cv_laws.proofs.PlainSteps
-use Rattle.cv_laws.proofs.Versions.{joined_is, joined_written}
+use Rattle.cv_laws.proofs.VersionTables.{joined_is, joined_written}
 use Rattle.cv_laws.specs.Flying.{Flies, FliesBy, FliesPatched, FliesPlain, GoesPatched, IsDue, IsOverPatched, StandsPatched, rest_of, turns_under}
 use Rattle.cv_runs.specs.Apply.{Note}
 use Rattle.cv_runs.specs.BlockEntries.{is_entry, since_next}

@@ -8,7 +8,7 @@ use Rattle.cv_base.specs.PlanOf.{PlanOf}
 use Rattle.cv_histories.specs.EntryOf.{Taken, entry_of}
 use Rattle.cv_histories.specs.Flight.{Adoption, Flight, begun, done_in, entered, entered_by, entered_next, flight_entry, flown, has_ended, joined, may_enter, may_turn, turned, turned_by, turned_next, turned_with, flight_turn}
 use Rattle.cv_histories.specs.Runs.{Run, run_at}
-use Rattle.cv_laws.proofs.Each.{all_at}
+use Rattle.cv_laws.specs.Each.{all_at}
 use Rattle.cv_laws.proofs.Flights.{begun_flies, ended_honest, entered_flies, notes_none, plain_whole, turned_flies}
 use Rattle.cv_laws.specs.Flying.{Flies, FliesBy, FliesPlain}
 use Rattle.cv_laws.specs.Statements.{AreOf, FlownIsHonest, FlownIsOf, FlownIsPlain}

@@ -14,7 +14,7 @@ use Rattle.cv_runs.specs.PatchedRun.{PatchedStep}
 use Rattle.cv_runs.specs.State.{State, Outcome, Next, Ended}
 use Rattle.cv_laws.proofs.Flights.{entered_flies, turned_flies}
 use Rattle.cv_laws.proofs.Slots.{set_has, set_length}
-use Rattle.cv_laws.proofs.Versions.{floor_below, newest_there, some_version}
+use Rattle.cv_laws.proofs.VersionTables.{floor_below, newest_there, some_version}
 
 -- ---- one run in flight changes, and keeps its number
 

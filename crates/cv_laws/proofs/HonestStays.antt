@@ -12,7 +12,7 @@ use Rattle.cv_histories.specs.Rows.{written}
 use Rattle.cv_histories.specs.Versions.{ledger}
 use Rattle.cv_laws.specs.Statements.{IsHonestIn, LegalIsHonest}
 use Rattle.cv_laws.proofs.Flights.{adopted_grown}
-use Rattle.cv_laws.proofs.Versions.{tables_stay}
+use Rattle.cv_laws.proofs.VersionTables.{tables_stay}
 use Rattle.cv_runs.specs.PatchedRun.{Table}
 
 -- under more versions, behind those under which it ran

@@ -2,7 +2,7 @@
 use Rattle.std.proofs.Common.{◌≡◌, ◌<◌, ◌≤◌, ◌+◌, ℕ, List, [], ◌∷◌, length, refl, sym, ap, ⊎_elim, arith}
 use Rattle.std.proofs.lemmas.Bool.{cases_lt}
 use Rattle.std.proofs.lemmas.List.Elements.{Contains-append_right}
-use Rattle.std.specs.Prelude.{map, Contains}
+use Rattle.std.specs.Prelude.{map}
 use Rattle.std.specs.List.{AllByRecursion}
 use Rattle.cv_base.specs.declared.entries.Entry.{Entry}
 use Rattle.cv_base.specs.PlanOf.{PlanOf}
@@ -10,7 +10,8 @@ use Rattle.cv_histories.specs.Legal.{IsWhole}
 use Rattle.cv_histories.specs.Runs.{runs}
 use Rattle.cv_histories.specs.Seen.{Seen}
 use Rattle.cv_histories.specs.Versions.{ledger}
-use Rattle.cv_laws.specs.InOrder.{AreBelow}
+use Rattle.cv_laws.specs.InOrder.{AreBelow, HasEntry}
+use Rattle.cv_laws.specs.Statements.{BelowIsWhole}
 
 -- no entry has a higher run
 pub all_below : (n k : ℕ) (past : List Entry) → AreBelow k past → k ≤ n → AllByRecursion (λ (o : Entry). o.run < n) past
@@ -24,10 +25,6 @@ pub one_more : (k : ℕ) (past : List Entry) (e : Entry) → e.run ≡ k → Are
 one_more k past e is are = (ap (λ n. n + 1) (sym is), rw is are)
 
 -- ---- each of them has an entry
-
--- a run has an entry in a history
-abbrev pub HasEntry : ℕ → List Entry → Type 0
-HasEntry number past = (e : Entry) × Contains past e × (e.run ≡ number)
 
 -- the newest entry, and one of those before it
 pub has_first : (number : ℕ) (o : Entry) (past : List Entry) → o.run ≡ number → HasEntry number (o ∷ past)
@@ -45,7 +42,7 @@ has_entry k number (o ∷ past) are below =
     (λ above. has_first number o past (omega arith)) (cases_lt number o.run)
 
 -- so with all runs the history is whole
-pub below_is_whole : (plan : PlanOf) (k : ℕ) (past : List Entry) → AreBelow k past → length (runs plan) ≤ k → IsWhole plan past
+pub below_is_whole : BelowIsWhole
 below_is_whole plan k past are all number below = has_entry k number past are (omega arith)
 
 -- ---- the entries of a ledger

@@ -8,7 +8,7 @@ use Rattle.cv_base.specs.declared.entries.Adopted.{Adopted}
 use Rattle.cv_histories.specs.Honest.{IsJoined}
 use Rattle.cv_histories.specs.Rows.{written}
 use Rattle.cv_histories.specs.Flight.{joined, joined_on}
-use Rattle.cv_laws.proofs.Versions.{one_more, reversed_joined, written_last}
+use Rattle.cv_laws.proofs.VersionTables.{one_more, reversed_joined, written_last}
 use Rattle.cv_laws.specs.Statements.{RowsAreJoined}
 
 -- ---- joined again

@@ -1,5 +1,4 @@
 pub mod Begins
-pub mod Each
 pub mod Flights
 pub mod Flown
 pub mod Goings
@@ -15,13 +14,14 @@ pub mod OneWorkerRises
 pub mod PatchedSteps
 pub mod PlainSteps
 pub mod Posts
-pub mod Rounds
+pub mod RoundNumbers
+pub mod Room
 pub mod RunOrder
-pub mod Serial
+pub mod SerialHistory
 pub mod SerialEntry
 pub mod SerialMayFollow
 pub mod Slots
 pub mod Unfired
 pub mod UnfiredSteps
-pub mod Versions
+pub mod VersionTables
 pub mod Worlds

@@ -10,7 +10,8 @@ use Rattle.cv_base.specs.Picture.{Picture}
 use Rattle.cv_runs.specs.BlockEntries.{is_entry, since_next}
 use Rattle.cv_runs.specs.PatchedRun.{PatchedStep, Table, entries_in, followed, only_if, patched_from, patched_run, patched_step, patched_turn, run_under}
 use Rattle.cv_runs.specs.State.{State, Outcome, Next, Ended, start_state}
-use Rattle.cv_laws.proofs.Each.{all_at}
+use Rattle.cv_laws.specs.Each.{all_at}
+use Rattle.cv_laws.specs.TurnStatements.{UnderTables}
 
 -- ---- it exists
 
@@ -179,6 +180,12 @@ kept test (Some c) a is =
     let parts = kept_by (test c) c a is in
     (ap Some parts.1, ap test (sym parts.1) ∙ parts.0)
 
+-- so a run under tables has as many block entries
+pub under_tables : UnderTables
+under_tables image input budget tables steps ran =
+    let parts = kept (λ (steps : List PatchedStep). entries_in steps == length tables) (patched_from image (slice_get tables) budget (start_state image input) None false 0 []) steps ran in
+    (parts.0, eqb-true (entries_in steps) (length tables) parts.1)
+
 -- the steps are those of the run under the table, with a block entry for each of the tables
 pub record IsUnder (image : Picture) (input : List ℕ) (budget : ℕ) (t : Table) (ts : List Table) (steps : List PatchedStep) : Type 0 where
   pub under : run_under image input budget t ≡ Some steps
@@ -189,12 +196,12 @@ pub record IsUnder (image : Picture) (input : List ℕ) (budget : ℕ) (t : Tabl
 pub copies_under : (image : Picture) (input : List ℕ) (budget : ℕ) (t : Table) (ts : List Table) (steps : List PatchedStep) → 1 ≤ budget → AllByRecursion (λ (x : Table). x ≡ t) ts → patched_run image input budget ts ≡ Some steps → IsUnder image input budget t ts steps
 copies_under image input budget t ts steps some all ran =
     let start = start_state image input in
-    let parts = kept (λ (steps : List PatchedStep). entries_in steps == length ts) (patched_from image (slice_get ts) budget start None false 0 []) steps ran in
+    let parts = under_tables image input budget ts steps ran in
     let under : run_under image input budget t ≡ Some steps = under_from image (slice_get ts) t (λ k x. all_at (λ (x : Table). x ≡ t) ts k x all) budget start None false 0 [] steps parts.0 in
     let runs = runs_under image input budget t some in
     let same : Some runs.steps ≡ Some steps = sym runs.under ∙ under in
     record {
       under = under;
       some = subst (λ (steps : List PatchedStep). 1 ≤ entries_in steps) (same_Some runs.steps steps same) runs.some;
-      count = eqb-true (entries_in steps) (length ts) parts.1;
+      count = parts.1;
     }

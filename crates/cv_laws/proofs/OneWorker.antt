@@ -15,7 +15,7 @@ use Rattle.cv_histories.specs.Serial.{serial_from, serial_ledger}
 use Rattle.cv_histories.specs.Versions.{Ledger, ledger, newest, posted}
 use Rattle.cv_laws.specs.InOrder.{AreBelow, AreByWorkerZero}
 use Rattle.cv_laws.specs.Statements.{OneWorkerIsSerial, WorkerZeroIsSerial}
-use Rattle.cv_laws.proofs.Each.{both}
+use Rattle.cv_laws.specs.Each.{both}
 use Rattle.cv_laws.proofs.InOrder.{entries_seen}
 use Rattle.cv_laws.proofs.OneWorkerRises.{whole_in_order}
 use Rattle.cv_laws.proofs.RunOrder.{left_at}

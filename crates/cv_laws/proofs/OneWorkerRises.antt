@@ -10,10 +10,10 @@ use Rattle.cv_base.specs.declared.entries.Entry.{Entry}
 use Rattle.cv_base.specs.PlanOf.{PlanOf}
 use Rattle.cv_histories.specs.Legal.{IsLegal, IsWhole, MayFollow, round_in, round_of}
 use Rattle.cv_histories.specs.Runs.{Run, run_at, runs}
-use Rattle.cv_laws.specs.InOrder.{AreBelow, AreByWorkerZero}
-use Rattle.cv_laws.proofs.Each.{of_one, weaker}
-use Rattle.cv_laws.proofs.InOrder.{HasEntry}
+use Rattle.cv_laws.specs.InOrder.{AreBelow, AreByWorkerZero, HasEntry}
+use Rattle.cv_laws.specs.Each.{of_one, weaker}
 use Rattle.cv_laws.proofs.RunOrder.{earlier_below}
+use Rattle.cv_laws.specs.Statements.{LegalIsOfPlan}
 
 -- ---- runs rise
 
@@ -60,7 +60,7 @@ legal_rise plan (e ∷ past) by legal =
 -- ---- all runs in order
 
 -- its runs are the plan's
-pub legal_below : (plan : PlanOf) (past : List Entry) → IsLegal plan past → AllByRecursion (λ (o : Entry). o.run < length (runs plan)) past
+pub legal_below : LegalIsOfPlan
 legal_below plan [] legal = tt
 legal_below plan (e ∷ past) legal = (slice_get_within (runs plan) e.run legal.0.honest.run legal.0.honest.of_plan, legal_below plan past legal.1)
 

@@ -9,6 +9,7 @@ use Rattle.cv_base.specs.Picture.{Picture}
 use Rattle.cv_runs.specs.BlockEntries.{is_entry, since_next}
 use Rattle.cv_runs.specs.PatchedRun.{PatchedStep, Table, entries_in, followed, patched_from, patched_step, patched_turn}
 use Rattle.cv_runs.specs.State.{State, Outcome, Next, Ended}
+use Rattle.cv_laws.specs.TurnStatements.{PatchedTurnFirst, step_with, table_at}
 
 -- ---- one step behind others
 
@@ -33,20 +34,8 @@ through done step (Some rest) = ap Some (sym (append_assoc done (step ∷ []) re
 
 -- ---- a turn with a table
 
--- the step of a turn with a table
-abbrev pub step_with : Picture → Table → State → Option ℕ → Bool → PatchedStep
-step_with image table s since transferred = patched_step s (is_entry since transferred) (patched_turn image table s)
-
--- the table of a turn: the one adopted at its block entry, or the current one
-abbrev pub table_at : (ℕ → Option Table) → Bool → ℕ → Table → Option Table
-table_at tables enters made current = if enters then tables made else Some current
-
 -- a run is its first turn and what follows it
-pub turn_first : (image : Picture) (tables : ℕ → Option Table) (k : ℕ) (s : State) (since : Option ℕ) (transferred : Bool) (made : ℕ) (current table : Table) (o : Outcome)
-    → table_at tables (is_entry since transferred) made current ≡ Some table → (patched_turn image table s).outcome ≡ o
-    → patched_from image tables (suc k) s since transferred made current
-    ≡ followed (step_with image table s since transferred) o
-    (λ (next : State) (transfer : Bool). patched_from image tables k next (since_next (is_entry since transferred) since) transfer (if is_entry since transferred then made + 1 else made) table)
+pub turn_first : PatchedTurnFirst
 unfolding patched_from
 turn_first image tables k s since transferred made current table o due is =
     let rest = λ (t : Table) (next : State) (transfer : Bool). patched_from image tables k next (since_next (is_entry since transferred) since) transfer (if is_entry since transferred then made + 1 else made) t in

@@ -6,14 +6,15 @@ use Rattle.cv_base.specs.Picture.{Picture}
 use Rattle.cv_runs.specs.PlainRun.{Step, steps_from, stepped}
 use Rattle.cv_runs.specs.PlainTurn.{turn_of}
 use Rattle.cv_runs.specs.State.{State, Outcome, Next, Ended}
+use Rattle.cv_laws.specs.TurnStatements.{NoPlainTurn, PlainTurnFirst}
 
 -- a run is its first turn and what follows it
-pub turn_first : (image : Picture) (k : ℕ) (s : State) (o : Outcome) → turn_of image s ≡ o → steps_from image (suc k) s ≡ stepped s o (steps_from image k)
+pub turn_first : PlainTurnFirst
 unfolding steps_from
 turn_first image k s o is = ap (λ (o : Outcome). stepped s o (steps_from image k)) is
 
 -- a run of no turns
-pub no_turn : (image : Picture) (s : State) → steps_from image 0 s ≡ []
+pub no_turn : NoPlainTurn
 unfolding steps_from
 no_turn image s = refl
 

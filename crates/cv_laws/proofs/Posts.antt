@@ -11,11 +11,12 @@ use Rattle.cv_histories.specs.Versions.{ledger, newest}
 use Rattle.cv_histories.specs.Flight.{Flight, flight_entry, has_ended}
 use Rattle.cv_histories.specs.World.{World, current_round, drawn_after, numbers_of, post_with}
 use Rattle.cv_laws.specs.WorldStands.{Has, IsAhead, IsFlying, WorldStands}
-use Rattle.cv_laws.proofs.Each.{weaker}
+use Rattle.cv_laws.specs.Each.{weaker}
 use Rattle.cv_laws.proofs.Flights.{ended_honest, grown_flies}
-use Rattle.cv_laws.proofs.Rounds.{IsOfRound, current_rises, current_stays, earlier_done, none_later}
+use Rattle.cv_laws.specs.RoundStatements.{IsOfRound}
+use Rattle.cv_laws.proofs.RoundNumbers.{current_rises, current_stays, earlier_done, none_later}
 use Rattle.cv_laws.proofs.Slots.{set_has, set_length}
-use Rattle.cv_laws.proofs.Versions.{floor_stays, joined_all, joined_never_falls, newest_grows, tables_stay}
+use Rattle.cv_laws.proofs.VersionTables.{floor_stays, joined_all, joined_never_falls, newest_grows, tables_stay}
 
 -- the draws go on where the current round stays
 drawn_on : (plan : PlanOf) (before now : List Entry) (drawn round : ℕ) → current_round plan before ≡ Some round → current_round plan now ≡ Some round → drawn_after plan before now drawn ≡ drawn

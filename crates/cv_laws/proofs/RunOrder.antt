@@ -9,7 +9,8 @@ use Rattle.cv_base.specs.declared.plan.Mode.{Mode}
 use Rattle.cv_base.specs.declared.plan.Round.{Round}
 use Rattle.cv_base.specs.PlanOf.{PlanOf, runs_of}
 use Rattle.cv_histories.specs.Runs.{Run, run_at, runs, runs_from}
-use Rattle.cv_laws.proofs.Each.{all_at, weaker}
+use Rattle.cv_laws.specs.Each.{all_at, weaker}
+use Rattle.cv_laws.specs.RoundStatements.{EarlierIsBelow, RunsAreCounted}
 
 -- ---- rounds
 
@@ -51,7 +52,7 @@ rounds_rise (x ∷ rs) (suc i) zero r s rising first second below = absurd (omeg
 rounds_rise (x ∷ rs) (suc i) (suc j) r s rising first second below = rounds_rise rs i j r s rising.1 first second (omega arith)
 
 -- a run of an earlier round has a lower number
-pub earlier_below : (plan : PlanOf) (i j : ℕ) (r s : Run) → run_at plan i ≡ Some r → run_at plan j ≡ Some s → s.round < r.round → j < i
+pub earlier_below : EarlierIsBelow
 earlier_below plan i j r s first second earlier =
     ⊎_elim (λ below. below)
     (λ above. let rises = rounds_rise (runs plan) i j r s (runs_rise 0 plan.rounds).1 first second above in absurd (omega arith)) (cases_lt j i)
@@ -102,5 +103,5 @@ count_from n (r ∷ rs) =
     ∙ rw (length-map, rest) (sym (sum_by-cons (λ (x : Round). length x.inputs) r rs))
 
 -- of a plan
-pub count : (plan : PlanOf) (rounds : List Round) → rounds ≡ plan.rounds → runs_of rounds ≡ length (runs plan)
+pub count : RunsAreCounted
 count plan rounds same = sym (count_from 0 rounds) ∙ ap (λ rs. length (runs_from 0 rs)) same

@@ -19,12 +19,13 @@ use Rattle.cv_runs.specs.PlainRun.{plain_run}
 use Rattle.cv_laws.specs.InOrder.{IsNext}
 use Rattle.cv_laws.proofs.OneRow.{all_tables, all_written, count_tables, one_row, row_tables}
 use Rattle.cv_laws.proofs.OneTable.{RunsUnder, copies_under, runs_under}
-use Rattle.cv_laws.proofs.Versions.{newest_there, some_version}
+use Rattle.cv_laws.proofs.VersionTables.{newest_there, some_version}
+use Rattle.cv_laws.specs.Statements.{LearnEntryIsLearn}
 
 -- ---- it says what its run did
 
 -- of a learn run
-pub learn_ran : (plan : PlanOf) (k : ℕ) (r : Run) → IsLearn plan r.input (learn_entry plan k r (plain_run plan.image r.input plan.budget))
+pub learn_ran : LearnEntryIsLearn
 learn_ran plan k r = record { adopted = refl; tells = record { end = refl; turns = refl; output = refl; sites = refl }; tally = refl; fired = refl }
 
 -- of a live run under the table of a version

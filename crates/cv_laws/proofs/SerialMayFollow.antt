@@ -8,10 +8,11 @@ use Rattle.cv_base.specs.PlanOf.{IsPlan, PlanOf}
 use Rattle.cv_histories.specs.Legal.{MayFollow, NeverFalls, floor_of, round_in, round_of}
 use Rattle.cv_histories.specs.Versions.{newest}
 use Rattle.cv_laws.specs.InOrder.{AreBelow, IsNext}
-use Rattle.cv_laws.proofs.Each.{weaker}
+use Rattle.cv_laws.specs.Each.{weaker}
 use Rattle.cv_laws.proofs.InOrder.{all_below, has_entry}
 use Rattle.cv_laws.proofs.RunOrder.{earlier_below}
-use Rattle.cv_laws.proofs.Versions.{floor_below}
+use Rattle.cv_laws.proofs.VersionTables.{floor_below}
+use Rattle.cv_laws.specs.Statements.{NextMayFollow}
 
 -- rows of one version alone never fall
 same_never_falls : (v : ℕ) (rows : List Adopted) → AllByRecursion (λ (a : Adopted). a.version ≡ v) rows → NeverFalls rows
@@ -23,7 +24,7 @@ same_never_falls v (a ∷ b ∷ rest) all =
     (omega arith, same_never_falls v (b ∷ rest) all.1)
 
 -- the next entry may follow
-pub next_may_follow : (plan : PlanOf) (k : ℕ) (past : List Entry) (e : Entry) → IsPlan plan → AreBelow k past → IsNext plan past k e → MayFollow plan past e
+pub next_may_follow : NextMayFollow
 next_may_follow plan k past e is_plan are next =
     let some = is_plan.some_worker in
     let is = next.run in

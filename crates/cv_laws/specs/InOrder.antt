@@ -1,5 +1,5 @@
 -- Runs that are taken in order by worker 0 (docs/REPAIR.md, "The serial history").
-use Rattle.std.specs.Prelude.{◌≡◌, ◌+◌, ℕ, List, [], ◌∷◌}
+use Rattle.std.specs.Prelude.{◌≡◌, ◌+◌, ℕ, Contains, List, [], ◌∷◌}
 use Rattle.std.specs.List.{AllByRecursion}
 use Rattle.cv_base.specs.declared.entries.Adopted.{Adopted}
 use Rattle.cv_base.specs.declared.entries.Entry.{Entry}
@@ -22,3 +22,7 @@ pub record IsNext (plan : PlanOf) (past : List Entry) (k : ℕ) (e : Entry) : Ty
   pub worker : e.worker ≡ 0
   pub newest_alone : AllByRecursion (λ (a : Adopted). a.version ≡ newest plan past) e.adopted
   pub honest : IsHonest plan (ledger plan past).versions e
+
+-- a run has an entry in a history
+abbrev pub HasEntry : ℕ → List Entry → Type 0
+HasEntry number past = (e : Entry) × Contains past e × (e.run ≡ number)

@@ -1,20 +1,20 @@
 -- Laws on histories (docs/REPAIR.md, "Laws on histories").
-use Rattle.std.specs.Prelude.{◌≡◌, ◌<◌, ◌≤◌, ℕ, true, List, [], reverse, Some, slice_get}
+use Rattle.std.specs.Prelude.{◌≡◌, ◌<◌, ◌≤◌, ℕ, true, List, [], length, reverse, Some, slice_get}
 use Rattle.std.specs.List.{AllByRecursion, fold}
 use Rattle.cv_base.specs.declared.entries.Adopted.{Adopted}
 use Rattle.cv_base.specs.declared.entries.Entry.{Entry}
 use Rattle.cv_base.specs.PlanOf.{PlanOf, IsPlan}
 use Rattle.cv_base.specs.declared.plan.Mode.TheVariants.{Learn}
 use Rattle.cv_histories.specs.Flight.{Adoption, Flight, begun, done_in, flight_entry, flown, has_ended, joined}
-use Rattle.cv_histories.specs.Honest.{IsHonest, IsJoined}
+use Rattle.cv_histories.specs.Honest.{IsHonest, IsJoined, IsLearn}
 use Rattle.cv_histories.specs.Legal.{IsLegal, IsWhole, MayFollow, NeverFalls}
 use Rattle.cv_histories.specs.Rows.{written}
-use Rattle.cv_histories.specs.Runs.{Run, run_at}
+use Rattle.cv_histories.specs.Runs.{Run, run_at, runs}
 use Rattle.cv_histories.specs.Unfired.{SaysPlain, UnfiredArePlain}
 use Rattle.cv_histories.specs.Serial.{learn_entry, serial}
 use Rattle.cv_histories.specs.Versions.{ledger}
 use Rattle.cv_histories.specs.World.{Event, World, after_event, start_world}
-use Rattle.cv_laws.specs.InOrder.{AreByWorkerZero}
+use Rattle.cv_laws.specs.InOrder.{AreBelow, AreByWorkerZero, IsNext}
 use Rattle.cv_laws.specs.WorldStands.{Has, WorldStands}
 use Rattle.cv_runs.specs.PatchedRun.{Table, steps_of}
 use Rattle.cv_runs.specs.PlainRun.{plain_run}
@@ -90,6 +90,28 @@ pub record IsHonestIn (plan : PlanOf) (past : List Entry) (e : Entry) : Type 0 w
 -- so is each entry of a legal history
 abbrev pub LegalIsHonest : Type 0
 LegalIsHonest = (plan : PlanOf) (past : List Entry) → IsLegal plan past → AllByRecursion (IsHonestIn plan past) past
+
+-- the runs of a legal history are the plan's
+abbrev pub LegalIsOfPlan : Type 0
+LegalIsOfPlan = (plan : PlanOf) (past : List Entry) → IsLegal plan past → AllByRecursion (λ (e : Entry). e.run < length (runs plan)) past
+
+-- it has no more entries than the plan has runs, and fewer where one more may follow
+abbrev pub LegalIsFew : Type 0
+LegalIsFew = (plan : PlanOf) (past : List Entry) → IsLegal plan past → length past ≤ length (runs plan)
+
+abbrev pub FollowedHasRoom : Type 0
+FollowedHasRoom = (plan : PlanOf) (past : List Entry) (e : Entry) → IsLegal plan past → MayFollow plan past e → length past < length (runs plan)
+
+-- the entry of a learn run in order is what the plain run says
+abbrev pub LearnEntryIsLearn : Type 0
+LearnEntryIsLearn = (plan : PlanOf) (number : ℕ) (run : Run) → IsLearn plan run.input (learn_entry plan number run (plain_run plan.image run.input plan.budget))
+
+-- the next entry in order may follow those of the runs below it, and with all runs they are whole
+abbrev pub NextMayFollow : Type 0
+NextMayFollow = (plan : PlanOf) (number : ℕ) (past : List Entry) (e : Entry) → IsPlan plan → AreBelow number past → IsNext plan past number e → MayFollow plan past e
+
+abbrev pub BelowIsWhole : Type 0
+BelowIsWhole = (plan : PlanOf) (number : ℕ) (past : List Entry) → AreBelow number past → length (runs plan) ≤ number → IsWhole plan past
 
 -- the history of the runs in order is legal and whole
 abbrev pub SerialIsLegal : Type 0

@@ -3,7 +3,19 @@
 //! (docs/REPAIR.md, "Laws on histories").
 #![tactic(auto)]
 
-ghost use Rattle.cv_laws.specs.Statements.{EndedMayFollow, EveryWorldIsLegal, FlownIsHonest, FlownIsOf, FlownIsPlain, LegalIsHonest, LegalIsPlain, OneWorkerIsSerial, RowsAreJoined, SerialIsLegal, UnfiredIsPlain, WorkerZeroIsSerial, WorldsStand};
+ghost use Rattle.cv_laws.specs.Statements.{EndedMayFollow, EveryWorldIsLegal, FlownIsHonest, FlownIsOf, FlownIsPlain, FollowedHasRoom, LegalIsFew, LegalIsHonest, LegalIsOfPlan, LegalIsPlain, OneWorkerIsSerial, RowsAreJoined, SerialIsLegal, UnfiredIsPlain, WorkerZeroIsSerial, WorldsStand};
+
+mod rounds;
+mod serial;
+mod turns;
+mod versions;
+
+pub use rounds::{
+    current_is_of_plan, earlier_is_below, numbers_are_of_round, numbers_rise, runs_are_counted,
+};
+pub use serial::{below_is_whole, learn_entry_is_learn, next_may_follow};
+pub use turns::{no_plain_turn, patched_turn_first, plain_turn_first, under_tables};
+pub use versions::{floor_is_below, floor_stays, newest_is_last, some_version, tables_stay};
 
 /// Every list of events leaves a legal history.
 pub fn every_world_is_legal()
@@ -70,4 +82,19 @@ pub fn worker_zero_is_serial()
 /// With one worker, a legal and whole history is the serial one.
 pub fn one_worker_is_serial()
     ensures { OneWorkerIsSerial }
+{}
+
+/// The runs of a legal history are the plan's.
+pub fn legal_is_of_plan()
+    ensures { LegalIsOfPlan }
+{}
+
+/// A legal history has no more entries than the plan has runs.
+pub fn legal_is_few()
+    ensures { LegalIsFew }
+{}
+
+/// A legal history has fewer entries than the plan has runs, where one more may follow.
+pub fn followed_has_room()
+    ensures { FollowedHasRoom }
 {}

@@ -9,7 +9,6 @@ pub mod Enforced
 pub mod FewRepairs
 pub mod Fresh
 pub mod LastTable
-pub mod LearnedKinds
 pub mod Makers
 pub mod NewVersion
 pub mod NoTwins

@@ -26,7 +26,7 @@ use cv_base::{Case, Change, Entry, FailureId, Image, NoMemory, PatchTable, Plan}
 use cv_blocks::TextMap;
 use cv_case::open_case;
 use cv_histories::is_observed;
-use cv_observe::{Summary, summary_in_any_order};
+use cv_observe::{Summary, learned_are_at_points, learned_are_invariants, summary_in_any_order};
 use std::alloc::Global;
 use std::sync::Arc;
 
@@ -121,6 +121,8 @@ impl Kept {
             return Ok(None);
         }
         let learned = self.summary.learned(alloc)?;
+        learned_are_invariants();
+        learned_are_at_points();
         let case = open_case(
             alloc,
             self.journal.len(),

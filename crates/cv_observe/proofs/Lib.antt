@@ -7,6 +7,7 @@ pub mod Folds
 pub mod FromKept
 pub mod Insertions
 pub mod LearnedFrom
+pub mod LearnedKinds
 pub mod Least
 pub mod Members
 pub mod Narrowing

@@ -4,4 +4,5 @@ pub mod Kept
 pub mod Learning
 pub mod Plain
 pub mod StandsFor
+pub mod Statements
 pub mod Words

@@ -7,6 +7,7 @@ ghost use Rattle.cv_base.specs.Picture.{Picture};
 ghost use Rattle.cv_runs.specs.Learned.{distinct, is_ordered, learned};
 ghost use Rattle.cv_observe.specs.Kept.{least_of, lesser_of};
 ghost use Rattle.cv_observe.specs.StandsFor.{StandsFor, SummaryOf};
+ghost use Rattle.cv_observe.specs.Statements.{LearnedAreAtPoints, LearnedAreInvariants};
 ghost use Rattle.cv_observe.specs.Words.{HaveWords};
 
 /// The distinct numbers of two lists are those of the first with those of the second added, so a
@@ -38,4 +39,14 @@ pub fn least_of_two_lists()
 /// A pair of registers that was out of order in one of two lists is out of order in both together.
 pub fn pairs_of_two_lists()
     ensures { (xs ys : List Observation) (a b : ℕ) → is_ordered (xs ++ ys) a b ≡ (is_ordered xs a b && is_ordered ys a b) }
+{}
+
+/// What is learned are invariants.
+pub fn learned_are_invariants()
+    ensures { LearnedAreInvariants }
+{}
+
+/// They are at points, where what was seen was seen at points.
+pub fn learned_are_at_points()
+    ensures { LearnedAreAtPoints }
 {}

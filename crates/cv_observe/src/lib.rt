@@ -16,8 +16,9 @@ mod summary;
 mod table;
 
 pub use laws::{
-    distinct_numbers_of_two_lists, learned_in_any_order, least_of_two_lists,
-    more_numbers_stay_more, pairs_of_two_lists, summary_in_any_order,
+    distinct_numbers_of_two_lists, learned_are_at_points, learned_are_invariants,
+    learned_in_any_order, least_of_two_lists, more_numbers_stay_more, pairs_of_two_lists,
+    summary_in_any_order,
 };
 pub use plain::Plain;
 pub use summary::Summary;

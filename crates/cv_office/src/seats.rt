@@ -1,4 +1,4 @@
-//! Single steps of seats.
+//! Single steps of seats. Each calls the laws by which its steps keep the office's rule.
 ghost use Rattle.std.specs.Prelude.{◌≡◌, ◌<◌, ◌≤◌, ◌-◌, ◌^◌, [], length, None, IfOk};
 ghost use Rattle.cv_rule.specs.declared.view.Opening.{Opening};
 ghost use Rattle.cv_rule.specs.declared.view.Role.TheVariants.{Master};
@@ -9,6 +9,12 @@ use crate::board::{
     Announces, Board, Books, Draws, Enters, GivesBack, Notes, Opens, Place, Renews, Seats, Sends,
 };
 use atomic_table::Table;
+use cv_rule::{
+    announce_keeps, book_keeps, close_has_runs, draw_keeps, draws_are_few, end_keeps, enter_keeps,
+    give_back_keeps, news_keeps, note_keeps, past_runs, renew_keeps, renewed_stays,
+    row_may_be_posted, seat_keeps, send_keeps, start_is_ruled, take_back_keeps, take_keeps,
+    within_grows,
+};
 use std::alloc::{AllocError, Global};
 
 /// The table at the start, and the master's seat. `versions` is how many versions the history at
@@ -23,6 +29,7 @@ pub fn open<M, T, C: Opens<M, T>>(
     ensures board { IfOk result (λ t. (t.0.shared.table_id.words ≡ 2) × (t.0.shared.table_id.slots ≡ 0) × (t.1.table_id ≡ t.0.shared.table_id) × (t.0.shared.key ≡ about.now)) }
     ensures master { IfOk result (λ t. t.1.me ≡ (master_at_start (C.opening about.now) (C.versions about.now) (C.workers about.now), [])) }
 {
+    start_is_ruled::<M, T>();
     Table::of_words(alloc, &[versions, 0], about)
 }
 
@@ -35,6 +42,7 @@ pub fn seat<M, T, C: Opens<M, T>>(board: &Board<M, T, C>, master: &mut Place<M, 
     ensures seat { (result.table_id ≡ master.old.table_id) × (result.me ≡ (new_pass master.old.me.0, [])) }
     ensures pass { IsPass result.me.0 }
 {
+    seat_keeps::<M, T>();
     board.shared.split_seat::<Seats>(master)
 }
 
@@ -47,6 +55,8 @@ pub fn enter<M, T, C: Opens<M, T>>(board: &Board<M, T, C>, pass: &mut Place<M, T
     ensures pass { IsPass pass.new.me.0 }
     ensures rises { (pass.old.me.0.reach ≤ result) × (pass.old.me.0.floor ≤ result) × (result ≤ 1024) }
 {
+    enter_keeps::<M, T>();
+    within_grows();
     (board.shared.load::<Enters>(pass, 0) - 1) as u32
 }
 
@@ -60,6 +70,8 @@ pub fn draw<M, T, C: Opens<M, T>>(board: &Board<M, T, C>, pass: &mut Place<M, T>
     ensures pass { IsPass pass.new.me.0 }
     ensures few { result < 2 ^ 32 }
 {
+    draw_keeps::<M, T>();
+    draws_are_few::<M, T>();
     board.shared.fetch_add::<Draws>(pass, 1, 1)
 }
 
@@ -80,6 +92,11 @@ pub fn hear<M, T, C: Opens<M, T>>(
     ensures known { master.new.me.0.known ≡ master.old.me.0.known }
     ensures reach { pass.old.me.0.reach < length master.old.me.0.known.versions }
 {
+    note_keeps::<M, T>();
+    take_keeps::<M, T>();
+    renew_keeps::<M, T>();
+    row_may_be_posted::<M, T>();
+    renewed_stays::<M, T>();
     let note = board.shared.split_seat::<Notes>(pass);
     board.shared.join_seat::<Notes>(master, note);
     board.shared.load::<Renews>(master, 0);
@@ -100,6 +117,12 @@ pub fn tell<M, T, C: Opens<M, T>>(
     ensures both { IsToldBoth (joined pass.old.me.0 (note_of master.old.me.0 [])) }
     ensures seated { IsPass pass.new.me.0 }
 {
+    note_keeps::<M, T>();
+    news_keeps::<M, T>();
+    renew_keeps::<M, T>();
+    row_may_be_posted::<M, T>();
+    renewed_stays::<M, T>();
+    within_grows();
     let note = board.shared.split_seat::<Notes>(master);
     board.shared.join_seat::<Notes>(pass, note);
     board.shared.load::<Renews>(pass, 0);
@@ -124,6 +147,11 @@ pub fn send<M, T, C: Opens<M, T>>(
     ensures may { IsPostable (joined master.old.me.0 (note_of pass.old.me.0 pass.old.me.0.hand)) pass.old.me.0.hand result }
     ensures known { master.new.me.0.known ≡ master.old.me.0.known }
 {
+    send_keeps::<M, T>();
+    take_keeps::<M, T>();
+    renew_keeps::<M, T>();
+    row_may_be_posted::<M, T>();
+    renewed_stays::<M, T>();
     let note = board.shared.split_seat::<Sends>(pass);
     board.shared.join_seat::<Notes>(master, note);
     board.shared.load::<Renews>(master, 0)
@@ -137,6 +165,7 @@ pub fn book<M, T, C: Opens<M, T>>(board: &Board<M, T, C>, master: &mut Place<M, 
     ensures booked { master.new.me.0 ≡ booked master.old.me.0 (result - 1) }
     ensures long { result ≡ length master.old.me.0.known.versions }
 {
+    book_keeps::<M, T>();
     board.shared.load::<Books>(master, 0)
 }
 
@@ -155,6 +184,7 @@ pub fn announce<M, T, C: Opens<M, T>>(
     ensures master { (master.new.table_id ≡ master.old.table_id) × (master.new.id ≡ master.old.id) × (master.new.me.1 ≡ master.old.me.1) }
     ensures announced { master.new.me.0 ≡ announced master.old.me.0 table.now }
 {
+    announce_keeps::<M, T>();
     board
         .shared
         .compare_exchange_with::<Announces>(master, 0, count, count + 1, table);
@@ -176,6 +206,12 @@ pub fn give_back<M, T, C: Opens<M, T>>(
     ensures back { pass.new.me.0 ≡ renewed (joined pass.old.me.0 (note_of master.old.me.0 master.old.me.0.hand)) }
     ensures seated { IsPass pass.new.me.0 }
 {
+    give_back_keeps::<M, T>();
+    take_back_keeps::<M, T>();
+    renew_keeps::<M, T>();
+    row_may_be_posted::<M, T>();
+    renewed_stays::<M, T>();
+    within_grows();
     let note = board.shared.split_seat::<GivesBack>(master);
     board.shared.join_seat::<Notes>(pass, note);
     board.shared.load::<Renews>(pass, 0);
@@ -196,6 +232,9 @@ pub fn end<M, T, C: Opens<M, T>>(
     ensures told { IsToldBoth (joined master.old.me.0 pass.me.0) }
     ensures known { master.new.me.0.known ≡ master.old.me.0.known }
 {
+    end_keeps::<M, T>();
+    renew_keeps::<M, T>();
+    row_may_be_posted::<M, T>();
     board.shared.join_seat::<Notes>(master, pass);
     board.shared.load::<Renews>(master, 0);
 }
@@ -206,6 +245,8 @@ pub fn close<M, T, C: Opens<M, T>>(board: Board<M, T, C>, master: Place<M, T>)
     requires board { (board.shared.table_id.slots ≡ 0) × (master.table_id ≡ board.shared.table_id) }
     ensures { (o : Opening M) → IsAlone o master.me.0 → HasRunsOnce o master.me.0 }
 {
+    past_runs::<M, T>();
+    close_has_runs::<M, T>();
     let closed = board.close_with(master);
     closed.free();
 }

@@ -13,8 +13,8 @@ use Rattle.cv_histories.specs.Honest.{AreTables, IsHonest, IsJoined, IsOfMode}
 use Rattle.cv_histories.specs.Legal.{NeverFalls}
 use Rattle.cv_histories.specs.Rows.{written}
 use Rattle.cv_histories.specs.Runs.{Run, run_at}
-use Rattle.cv_replay.proofs.HonestRun.{honest_flown}
 use Rattle.cv_replay.specs.Script.{AreCounted, IsScript, Rises, ScriptOf, adoptions}
+use Rattle.cv_replay.specs.Statements.{HonestIsFlown}
 use Rattle.cv_runs.specs.PatchedRun.{Table}
 
 -- rows count something
@@ -83,11 +83,11 @@ places_by plan versions input e Live is =
     each_row (λ (v : ℕ). v < length versions) e.adopted (joined_counted e.adopted is.joined) (all_within versions (written e.adopted) is.tables is.adopted)
 
 -- its script may be followed
-pub honest_script : (plan : PlanOf) (versions : List Table) (e : Entry) (s : ScriptOf) → 1 ≤ plan.budget → IsHonest plan versions e → NeverFalls e.adopted
+pub honest_script : HonestIsFlown → (plan : PlanOf) (versions : List Table) (e : Entry) (s : ScriptOf) → 1 ≤ plan.budget → IsHonest plan versions e → NeverFalls e.adopted
     → s ≡ record { entry = e; versions = versions } → IsScript plan s
-honest_script plan versions e s budget honest falls is =
+honest_script is_flown plan versions e s budget honest falls is =
     let run = honest.run in
-    let said = honest_flown plan versions e run honest honest.of_plan in
+    let said = is_flown plan versions e run honest honest.of_plan in
     let own : ScriptOf = record { entry = e; versions = versions } in
     let counted = counted_by plan versions run.input e e.mode honest.as_it_ran in
     let some = said.1 budget in

@@ -14,8 +14,7 @@ use Rattle.cv_histories.specs.Honest.{AreTables, IsLearn, IsLive, IsOfMode}
 use Rattle.cv_histories.specs.Rows.{written}
 use Rattle.cv_histories.specs.Runs.{Run}
 use Rattle.cv_histories.specs.Seen.{is_live}
-use Rattle.cv_laws.proofs.OneTable.{kept}
-use Rattle.cv_laws.proofs.PlainSteps
+use Rattle.cv_laws.specs.TurnStatements.{NoPlainTurn, PlainTurnFirst, UnderTables}
 use Rattle.cv_replay.specs.Said.{state_before, steps_by, steps_in, steps_with, tables_of}
 use Rattle.cv_replay.specs.Statements.{HonestIsFlown, StandsBefore, adoption, adoptions_said}
 use Rattle.cv_runs.specs.BlockEntries.{is_entry, since_next}
@@ -312,7 +311,7 @@ record IsPlain (plan : PlanOf) (steps : List Step) (turn : ℕ) (f : Flight) : T
   sum : left + turn ≡ plan.budget
   goes : steps_from plan.image left f.state ≡ drop turn steps
 
-module _ (plan : PlanOf) (adoptions : List Adoption) (steps : List Step) where
+module _ (no_turn : NoPlainTurn) (turn_first : PlainTurnFirst) (plan : PlanOf) (adoptions : List Adoption) (steps : List Step) where
   -- it has no block entry
   no_entry : (f : Flight) → is_live f.run.mode ≡ false → at_entry f ≡ false
   no_entry f learns = ap (λ (b : Bool). b && is_entry f.since f.transferred) learns
@@ -329,7 +328,7 @@ module _ (plan : PlanOf) (adoptions : List Adoption) (steps : List Step) where
   -- it has turns left while there are steps
   some_left : (f : Flight) (turn left : ℕ) → turn < length steps → steps_from plan.image left f.state ≡ drop turn steps → (k : ℕ) × (left ≡ suc k)
   some_left f turn zero some goes =
-      let none : drop turn steps ≡ [] = sym goes ∙ PlainSteps.no_turn plan.image f.state in
+      let none : drop turn steps ≡ [] = sym goes ∙ no_turn plan.image f.state in
       let past = none_left steps turn none in
       absurd (omega arith)
   some_left f turn (suc left) some goes = (left, refl)
@@ -348,7 +347,7 @@ module _ (plan : PlanOf) (adoptions : List Adoption) (steps : List Step) where
 
   -- the steps from this turn on
   goes_by : (f : Flight) (turn k : ℕ) (o : Outcome) → turn_of plan.image f.state ≡ o → IsPlain plan steps turn f → (left : ℕ) → steps_from plan.image left f.state ≡ drop turn steps → left ≡ suc k → stepped f.state o (steps_from plan.image k) ≡ drop turn steps
-  goes_by f turn k o is p left goes more = sym (PlainSteps.turn_first plan.image k f.state o is) ∙ ap (λ (n : ℕ). steps_from plan.image n f.state) (sym more) ∙ goes
+  goes_by f turn k o is p left goes more = sym (turn_first plan.image k f.state o is) ∙ ap (λ (n : ℕ). steps_from plan.image n f.state) (sym more) ∙ goes
 
   -- they begin with its step
   plain_state : (f : Flight) (turn : ℕ) (o : Outcome) (later : State → List Step) → stepped f.state o later ≡ drop turn steps → state_before steps turn ≡ Some f.state
@@ -455,24 +454,24 @@ some_patched image tables (suc budget) s steps some ran =
     some_followed (patched_step s true (patched_turn image first.table s)) (patched_turn image first.table s).outcome
     (λ next transfer. patched_from image tables budget next (since_next true None) transfer (0 + 1) first.table) steps first.ran
 
-some_plain : (image : Picture) (budget : ℕ) (s : State) → 1 ≤ budget → 0 < length (steps_from image budget s)
-some_plain image zero s some = absurd (omega arith)
-some_plain image (suc budget) s some =
-    subst (λ (steps : List Step). 0 < length steps) (sym (PlainSteps.turn_first image budget s (turn_of image s) refl)) (some_stepped (turn_of image s))
+some_plain : PlainTurnFirst → (image : Picture) (budget : ℕ) (s : State) → 1 ≤ budget → 0 < length (steps_from image budget s)
+some_plain turn_first image zero s some = absurd (omega arith)
+some_plain turn_first image (suc budget) s some =
+    subst (λ (steps : List Step). 0 < length steps) (sym (turn_first image budget s (turn_of image s) refl)) (some_stepped (turn_of image s))
   where
     some_stepped : (o : Outcome) → 0 < length (stepped s o (steps_from image budget))
     some_stepped (Next next transfer) = omega arith
     some_stepped (Ended end) = omega arith
 
 -- a live entry
-live_said : (plan : PlanOf) (versions : List Table) (e : Entry) (run : Run) → run.mode ≡ Live → IsLive plan versions run.input e → Said plan versions (steps_by Live plan versions run.input e.adopted) e run
-live_said plan versions e run lives honest =
+live_said : UnderTables → (plan : PlanOf) (versions : List Table) (e : Entry) (run : Run) → run.mode ≡ Live → IsLive plan versions run.input e → Said plan versions (steps_by Live plan versions run.input e.adopted) e run
+live_said under_tables plan versions e run lives honest =
     let start = start_state plan.image run.input in
     let input = run.input in
     let adoptions = adoptions_said versions e.adopted in
     let tables : tables_of versions e.adopted ≡ honest.tables = tables_are versions (written e.adopted) honest.tables honest.adopted in
     let ran : patched_run plan.image input plan.budget honest.tables ≡ Some honest.steps = honest.ran in
-    let from = (kept (λ (steps : List PatchedStep). entries_in steps == length honest.tables) (patched_from plan.image (slice_get honest.tables) plan.budget start None false 0 []) honest.steps ran).0 in
+    let from = (under_tables plan.image input plan.budget honest.tables honest.steps ran).0 in
     let by : map (λ (a : Adoption). a.table) adoptions ≡ honest.tables = adopted_tables versions (written e.adopted) ∙ tables in
     let steps : steps_by Live plan versions input e.adopted ≡ steps_of honest.steps =
     ap (λ (ts : List Table). steps_in (patched_run plan.image input plan.budget ts)) tables ∙ ap steps_in ran in
@@ -493,8 +492,8 @@ live_said plan versions e run lives honest =
     )
 
 -- a learn entry
-learn_said : (plan : PlanOf) (versions : List Table) (e : Entry) (run : Run) → run.mode ≡ Learn → IsLearn plan run.input e → Said plan versions (plain_run plan.image run.input plan.budget) e run
-learn_said plan versions e run learns honest =
+learn_said : NoPlainTurn → PlainTurnFirst → (plan : PlanOf) (versions : List Table) (e : Entry) (run : Run) → run.mode ≡ Learn → IsLearn plan run.input e → Said plan versions (plain_run plan.image run.input plan.budget) e run
+learn_said no_turn turn_first plan versions e run learns honest =
     let start = start_state plan.image run.input in
     let steps = steps_from plan.image plan.budget start in
     let plain : IsPlain plan steps 0 (begun plan e.run run) = record {
@@ -506,20 +505,20 @@ learn_said plan versions e run learns honest =
       goes = refl;
     } in (
       honest.tells.turns,
-      some_plain plan.image plan.budget start,
-      plain_stands plan (adoptions_said versions e.adopted) steps (begun plan e.run run) plain,
+      some_plain turn_first plan.image plan.budget start,
+      plain_stands no_turn turn_first plan (adoptions_said versions e.adopted) steps (begun plan e.run run) plain,
     )
 
 -- by the mode
-said_by : (plan : PlanOf) (versions : List Table) (e : Entry) (run : Run) (mode : Mode) → run.mode ≡ mode → IsOfMode mode plan versions run.input e → Said plan versions (steps_by mode plan versions run.input e.adopted) e run
-said_by plan versions e run Learn is honest = learn_said plan versions e run is honest
-said_by plan versions e run Live is honest = live_said plan versions e run is honest
+said_by : UnderTables → NoPlainTurn → PlainTurnFirst → (plan : PlanOf) (versions : List Table) (e : Entry) (run : Run) (mode : Mode) → run.mode ≡ mode → IsOfMode mode plan versions run.input e → Said plan versions (steps_by mode plan versions run.input e.adopted) e run
+said_by under_tables no_turn turn_first plan versions e run Learn is honest = learn_said no_turn turn_first plan versions e run is honest
+said_by under_tables no_turn turn_first plan versions e run Live is honest = live_said under_tables plan versions e run is honest
 
-pub honest_flown : HonestIsFlown
-honest_flown plan versions e run honest of_plan =
+pub honest_flown : UnderTables → NoPlainTurn → PlainTurnFirst → HonestIsFlown
+honest_flown under_tables no_turn turn_first plan versions e run honest of_plan =
     let same : run ≡ honest.run = cc (honest.of_plan, of_plan) in
     let mode : e.mode ≡ run.mode = honest.mode ∙ ap (λ (r : Run). r.mode) (sym same) in
     let as_run : IsOfMode run.mode plan versions run.input e =
     subst (λ (mode : Mode). IsOfMode mode plan versions run.input e) mode (subst (λ (r : Run). IsOfMode e.mode plan versions r.input e) (sym same) honest.as_it_ran) in
     subst (λ (steps : List Step). Said plan versions steps e run) (sym (ap (steps_with plan versions e.adopted) of_plan))
-    (said_by plan versions e run run.mode refl as_run)
+    (said_by under_tables no_turn turn_first plan versions e run run.mode refl as_run)

@@ -30,17 +30,10 @@ one_more value turn v w found before now next is =
     ∙ ap (λ (o : Option ℕ). if are_same (Some v) o then changed_before value turn else Some turn) (ap value (sym one) ∙ next)
     ∙ noted_by (v == w) turn found before (changed_before value turn) is
 
--- the value of a part of the state
-pub part_before : (part : State → ℕ) (steps : List Step) (turn : ℕ) (s : State) → state_before steps turn ≡ Some s → value_before part steps turn ≡ Some (part s)
-part_before part steps turn s is = ap (option_map part) is
-
 -- nothing before the first turn
 or_none : (found : Option ℕ) → or_before found None ≡ found
 or_none None = refl
 or_none (Some turn) = refl
-
-pub from_start : (value : ℕ → Option ℕ) (end : ℕ) (found : Option ℕ) (from : ℕ) → from ≡ 0 → changed_before value end ≡ or_before found (changed_before value from) → changed_before value end ≡ found
-from_start value end found from start is = is ∙ ap (λ (n : ℕ). or_before found (changed_before value n)) start ∙ or_none found
 
 -- ---- of each register
 

@@ -3,6 +3,7 @@ ghost use Rattle.cv_histories.specs.Honest.{IsHonest};
 ghost use Rattle.cv_histories.specs.Legal.{NeverFalls};
 ghost use Rattle.cv_replay.specs.Script.{IsScript};
 
+use crate::laws::honest_is_flown;
 use cv_base::{Adopted, Entry, NoMemory, PatchTable, Plan};
 use std::alloc::Global;
 use std::marker::Model;
@@ -38,6 +39,7 @@ impl Script {
         ensures goes_by { IfOk result (λ s. IsScript plan.now s) }
         ensures same { IfOk result (λ s. s ≡ record { entry = entry.now; versions = map (λ t. t.value) tables.items }) }
     {
+        honest_is_flown();
         let _budget = plan.budget;
         let entry = entry.copied(alloc)?;
         Ok(Script { entry, tables })

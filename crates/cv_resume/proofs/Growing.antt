@@ -6,10 +6,10 @@ use Rattle.std.proofs.lemmas.List.{append-nil, take-append-le}
 use Rattle.cv_base.specs.declared.entries.Entry.{Entry}
 use Rattle.cv_base.specs.PlanOf.{PlanOf}
 use Rattle.cv_edge.specs.Disk.{LeavesOnly, Meaning}
+use Rattle.cv_edge.specs.DiskLaws.{leaves_none, leaves_then, leaves_weaker}
 use Rattle.cv_edge.specs.Edge.{Rose}
 use Rattle.cv_histories.specs.Legal.{IsLegal}
 use Rattle.cv_histories.specs.Report.{entry_lines}
-use Rattle.cv_keep.proofs.Moments.{no_call, then_calls, weaker}
 use Rattle.cv_keep.specs.Keeping.{IsBeforeOrAfter, IsSettled}
 use Rattle.cv_keep.specs.Pieces.{pieces}
 use Rattle.cv_resume.specs.Resumed.{AreRounds, HasKept, HoldsFirst, IsPieceOf, LeavesRounds, RoundsJoin}
@@ -63,9 +63,9 @@ module _ {D : Type 0} (means : Meaning D) where
       → LeavesOnly means b c (HoldsFirst (pieces (means.content b)) also) → LeavesOnly means a c (HoldsFirst (pieces (means.content a)) (more ++ also))
   images_then a b c more also first content second =
       let old = pieces (means.content a) in
-      then_calls means a b c (HoldsFirst old (more ++ also))
-      (weaker means a b (HoldsFirst old more) (HoldsFirst old (more ++ also)) (holds_more old more also) first)
-      (weaker means b c (HoldsFirst (pieces (means.content b)) also) (HoldsFirst old (more ++ also))
+      leaves_then means a b c (HoldsFirst old (more ++ also))
+      (leaves_weaker means a b (HoldsFirst old more) (HoldsFirst old (more ++ also)) (holds_more old more also) first)
+      (leaves_weaker means b c (HoldsFirst (pieces (means.content b)) also) (HoldsFirst old (more ++ also))
       (λ x has. holds_behind old more also x (subst (λ (ps : List (List ℕ)). HoldsFirst ps also x) content has)) second)
 
   -- nothing is kept yet
@@ -76,7 +76,7 @@ module _ {D : Type 0} (means : Meaning D) where
     count = omega arith;
     rounds = refl;
     content = λ tells. sym (append-nil (pieces (means.content a)));
-    images = λ tells. no_call means a (HoldsFirst (pieces (means.content a)) [])
+    images = λ tells. leaves_none means a (HoldsFirst (pieces (means.content a)) [])
         (λ c left. (0, omega arith, ap pieces ((settled tells).1 c (only_now a c left)) ∙ sym (append-nil (pieces (means.content a)))));
   }
 
@@ -91,7 +91,7 @@ module _ {D : Type 0} (means : Meaning D) where
         (subst (λ (n : ℕ). AreRounds plan n past (piece ∷ []) after) kept.count (one_round plan next past after piece is short));
     content = λ tells. content tells ∙ ap (λ (ps : List (List ℕ)). ps ++ piece ∷ []) (kept.content tells) ∙ append_assoc (pieces (means.content a)) kept.more (piece ∷ []);
     images = λ tells. images_then a b c kept.more (piece ∷ []) (kept.images tells) (kept.content tells)
-        (weaker means b c (IsBeforeOrAfter (pieces (means.content b)) piece) (HoldsFirst (pieces (means.content b)) (piece ∷ [])) (holds_either (pieces (means.content b)) piece) (images tells));
+        (leaves_weaker means b c (IsBeforeOrAfter (pieces (means.content b)) piece) (HoldsFirst (pieces (means.content b)) (piece ∷ [])) (holds_either (pieces (means.content b)) piece) (images tells));
   }
 
   -- what a crash leaves of the rounds that were kept
@@ -108,5 +108,5 @@ module _ {D : Type 0} (means : Meaning D) where
     rounds = rounds_append plan round before past after kept.more (piece ∷ []) kept.rounds
         (subst (λ (n : ℕ). AreRounds plan n past (piece ∷ []) after) kept.count (one_round plan next past after piece is short));
     images = λ tells. images_then a b c kept.more (piece ∷ []) (kept.images tells) (kept.content tells)
-        (weaker means b c (IsBeforeOrAfter (pieces (means.content b)) piece) (HoldsFirst (pieces (means.content b)) (piece ∷ [])) (holds_either (pieces (means.content b)) piece) (images tells));
+        (leaves_weaker means b c (IsBeforeOrAfter (pieces (means.content b)) piece) (HoldsFirst (pieces (means.content b)) (piece ∷ [])) (holds_either (pieces (means.content b)) piece) (images tells));
   }

@@ -5,9 +5,9 @@ use Rattle.std.specs.Prelude.{◌↔◌, option_map, option_and_then}
 use Rattle.std.proofs.lemmas.List.{append-nil, drop_all}
 use Rattle.cv_base.specs.declared.entries.Entry.{Entry}
 use Rattle.cv_journal.specs.EntryReading.{ValuesOf, entry_in, entry_of, is_number, values_in}
-use Rattle.cv_journal.proofs.NumberLaw.{number_reads}
 use Rattle.cv_journal.specs.LineOf.{IsLineOf}
 use Rattle.cv_journal.specs.Reading.{both, number_in}
+use Rattle.cv_journal.specs.Statements.{NumbersAreReadBack}
 use Rattle.cv_journal.specs.Steps.{prepended}
 use Rattle.cv_resume.specs.Kept.{entries_at, entries_behind, entries_in, with_piece}
 use Rattle.cv_resume.specs.Texts.{texts_of}
@@ -34,17 +34,17 @@ wide_by : (n : ℕ) (o : Option ℕ) → ((m : ℕ) → o ≡ Some m → m < 2 ^
 wide_by n None small past = refl
 wide_by n (Some m) small past = let low = small m refl in grind arith
 
-wide_values : (n : ℕ) (o : Option ValuesOf) → 2 ^ 32 ≤ n → option_and_then (entry_of n) o ≡ None
+wide_values : NumbersAreReadBack → (n : ℕ) (o : Option ValuesOf) → 2 ^ 32 ≤ n → option_and_then (entry_of n) o ≡ None
 unfolding entry_of
-wide_values n None past = refl
-wide_values n (Some v) past =
-    let other : is_number n (number_in v.number) ≡ false = wide_by n (number_in v.number) (λ m is. (number_reads.back v.number m is).0) past in
+wide_values read_back n None past = refl
+wide_values read_back n (Some v) past =
+    let other : is_number n (number_in v.number) ≡ false = wide_by n (number_in v.number) (λ m is. (read_back.0 v.number m is).0) past in
     rw other refl
 
 -- no line has such a number
-pub none_past : (n : ℕ) (line : List ℕ) → 2 ^ 32 ≤ n → None ≡ entry_in n line
+pub none_past : NumbersAreReadBack → (n : ℕ) (line : List ℕ) → 2 ^ 32 ≤ n → None ≡ entry_in n line
 unfolding entry_in
-none_past n line past = sym (wide_values n (values_in line) past)
+none_past read_back n line past = sym (wide_values read_back n (values_in line) past)
 
 -- ---- lines
 

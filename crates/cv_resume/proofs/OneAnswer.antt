@@ -5,19 +5,17 @@ use Rattle.std.specs.List.{list_all}
 use Rattle.std.proofs.lemmas.Bool.{and_parts, cases_lt, leb-true}
 use Rattle.std.proofs.lemmas.List.{reverse-append, take-append-drop, take-take}
 use Rattle.std.proofs.lemmas.Option.{get_or_from_slice_get, slice_get_within}
-use Rattle.cv_audit.proofs.Floors.{seen_more}
 use Rattle.cv_audit.specs.Clauses.{Breaks}
 use Rattle.cv_audit.specs.Judged.{IsWrong, before}
-use Rattle.cv_audit.specs.Statements.{TestsAreFollowing}
+use Rattle.cv_audit.specs.Statements.{OneMoreEntry, TestsAreFollowing}
 use Rattle.cv_base.specs.declared.entries.Entry.{Entry}
 use Rattle.cv_base.specs.declared.plan.Mode.{Mode}
 use Rattle.cv_base.specs.declared.plan.Round.{Round}
 use Rattle.cv_base.specs.PlanOf.{IsPlan, PlanOf, is_round}
 use Rattle.cv_desk.specs.Openings.{IsUpTo}
-use Rattle.cv_histories.proofs.Laws.{IsLegal-before}
 use Rattle.cv_histories.specs.Legal.{IsLegal, MayFollow, round_in, round_of}
 use Rattle.cv_histories.specs.Runs.{Run, run_at, runs_from}
-use Rattle.cv_laws.proofs.Each.{of_one}
+use Rattle.cv_laws.specs.Each.{of_one}
 use Rattle.cv_manager.specs.ManagerOf.{ManagerOf}
 use Rattle.cv_resume.specs.Kept.{entries_of}
 use Rattle.cv_resume.specs.Restored.{AnswersAreOne, IsFault, IsFirstPart, IsPart, IsPartIn, IsRestored, IsWrongIn}
@@ -26,24 +24,6 @@ use Rattle.cv_resume.specs.declared.faults.KeptFault.TheVariants.{BadPiece, Wron
 use Rattle.cv_resume.specs.declared.restoring.Restored.{Restored}
 use Rattle.cv_resume.proofs.WholeRounds.{some_of}
 
--- ---- wrong entries
-
--- each entry of a legal history may follow those before it
-legal_at : (plan : PlanOf) (entries : List Entry) (at : ℕ) (e : Entry) → IsLegal plan (reverse entries) → slice_get entries at ≡ Some e → MayFollow plan (before entries at) e
-legal_at plan entries at e legal found =
-    let within = slice_get_within entries at e found in
-    let here : e ≡ get_or entries at e = sym (get_or_from_slice_get entries at e e found) in
-    let newer = reverse (drop (at + 1) entries) in
-    let split : reverse entries ≡ newer ++ (e ∷ reverse (take at entries)) =
-    ap (λ (es : List Entry). reverse es) (sym (take-append-drop (at + 1) entries))
-    ∙ reverse-append (take (at + 1) entries) (drop (at + 1) entries)
-    ∙ ap (λ (es : List Entry). newer ++ es) (seen_more entries at e within here) in
-    (IsLegal-before plan newer (e ∷ reverse (take at entries)) (subst (IsLegal plan) split legal)).0
-
-wrong_not_legal : TestsAreFollowing → (plan : PlanOf) (entries : List Entry) (at clause : ℕ) → IsWrong plan entries at clause → IsLegal plan (reverse entries) → ⊥
-wrong_not_legal law plan entries at clause wrong legal =
-    (law plan (before entries at) wrong.entry).1 clause wrong.breaks (legal_at plan entries at wrong.entry legal wrong.found)
-
 -- the first items of a list have the same items before their end
 get_take : (entries : List Entry) (n k : ℕ) → k < n → slice_get (take n entries) k ≡ slice_get entries k
 get_take [] zero k below = refl
@@ -51,26 +31,6 @@ get_take [] (suc n) k below = refl
 get_take (e ∷ entries) zero k below = absurd (omega arith)
 get_take (e ∷ entries) (suc n) zero below = refl
 get_take (e ∷ entries) (suc n) (suc k) below = get_take entries n k (omega arith)
-
--- so the first wrong entry is at one place
-none_before : TestsAreFollowing → (plan : PlanOf) (entries : List Entry) (at clause later : ℕ) → at < later → IsWrong plan entries at clause → IsLegal plan (before entries later) → ⊥
-none_before law plan entries at clause later below wrong legal =
-    let same : take at (take later entries) ≡ take at entries = take-take at later entries (omega arith) in
-    let found : slice_get (take later entries) at ≡ Some wrong.entry = get_take entries later at below ∙ wrong.found in
-    let follows = legal_at plan (take later entries) at wrong.entry legal found in
-    (law plan (before entries at) wrong.entry).1 clause wrong.breaks (subst (λ (es : List Entry). MayFollow plan (reverse es) wrong.entry) same follows)
-
-one_place : TestsAreFollowing → (plan : PlanOf) (entries : List Entry) (at clause other third : ℕ) → IsWrong plan entries at clause → IsWrong plan entries other third → at ≡ other
-one_place law plan entries at clause other third first second =
-    ⊎_elim (λ below. absurd (none_before law plan entries at clause other below first second.legal))
-    (λ above. ⊎_elim (λ below. absurd (none_before law plan entries other third at below second first.legal)) (λ up. omega arith) (cases_lt other at)) (cases_lt at other)
-
-one_clause : TestsAreFollowing → (plan : PlanOf) (entries : List Entry) (at clause third : ℕ) → IsWrong plan entries at clause → IsWrong plan entries at third → clause ≡ third
-one_clause law plan entries at clause third first second =
-    let found = first.found in
-    let again = second.found in
-    let same : second.entry ≡ first.entry = cc in
-    (law plan (before entries at) first.entry).2 clause third first.breaks (subst (λ (e : Entry). Breaks plan (before entries at) e third) same second.breaks)
 
 -- ---- rounds
 
@@ -144,7 +104,7 @@ one_part plan past m n first second =
     ⊎_elim (λ less. absurd (second.first m less first.part))
     (λ above. ⊎_elim (λ less. absurd (first.first n less second.part)) (λ up. omega arith) (cases_lt n m)) (cases_lt m n)
 
--- ---- answers
+-- ---- what is restored, and rounds kept in part
 
 same_held : (ps : List (List ℕ)) (es fs : List Entry) → entries_of ps ≡ Ok es → entries_of ps ≡ Ok fs → es ≡ fs
 same_held ps es fs first second = cc
@@ -184,49 +144,94 @@ restored_one plan ps limits r s x y =
     let second : Reaches plan x.entries s.rounds = subst (λ (fs : List Entry). Reaches plan fs s.rounds) (sym es) (reaches plan ps s y) in
     same_restored r s book (up_to_one plan (reverse x.entries) r.rounds s.rounds limits first.up_to second.up_to first.within second.within)
 
-wrong_one : TestsAreFollowing → (plan : PlanOf) (ps : List (List ℕ)) (a c b d : ℕ) → IsWrongIn plan ps a c → IsWrongIn plan ps b d → Wrong a c ≡ Wrong b d
-wrong_one law plan ps a c b d x y =
-    let es : y.entries ≡ x.entries = same_held ps y.entries x.entries y.held x.held in
-    let other : IsWrong plan x.entries b d = subst (λ (fs : List Entry). IsWrong plan fs b d) es y.wrong in
-    let place : a ≡ b = one_place law plan x.entries a c b d x.wrong other in
-    let clause : c ≡ d = one_clause law plan x.entries a c d x.wrong (subst (λ (n : ℕ). IsWrong plan x.entries n d) (sym place) other) in
-    cc
-
 part_one : (plan : PlanOf) (ps : List (List ℕ)) (m n : ℕ) → IsPartIn plan ps m → IsPartIn plan ps n → Partial m ≡ Partial n
 part_one plan ps m n x y =
     let es : y.entries ≡ x.entries = same_held ps y.entries x.entries y.held x.held in
     let same : m ≡ n = one_part plan (reverse x.entries) m n x.part (subst (λ (fs : List Entry). IsFirstPart plan (reverse fs) n) es y.part) in
     cc
 
-wrong_or_part : TestsAreFollowing → (plan : PlanOf) (ps : List (List ℕ)) (a c n : ℕ) → IsWrongIn plan ps a c → IsPartIn plan ps n → ⊥
-wrong_or_part law plan ps a c n x y =
-    let es : y.entries ≡ x.entries = same_held ps y.entries x.entries y.held x.held in
-    wrong_not_legal law plan x.entries a c x.wrong (subst (λ (fs : List Entry). IsLegal plan (reverse fs)) es y.legal)
+-- the law of `cv_histories` on what came before
+abbrev LegalBefore : Type 0
+LegalBefore = (plan : PlanOf) (newest past : List Entry) → IsLegal plan (newest ++ past) → IsLegal plan past
 
-fault_one : TestsAreFollowing → (plan : PlanOf) (ps : List (List ℕ)) (f g : KeptFault) → IsFault plan ps f → IsFault plan ps g → f ≡ g
-fault_one law plan ps (BadPiece k) (BadPiece l) x y = cc
-fault_one law plan ps (BadPiece k) (Wrong b d) x y = let held = y.held in absurd cc
-fault_one law plan ps (BadPiece k) (Partial n) x y = let held = y.held in absurd cc
-fault_one law plan ps (BadPiece k) (TooLong n) x y = absurd y
-fault_one law plan ps (Wrong a c) (BadPiece l) x y = let held = x.held in absurd cc
-fault_one law plan ps (Wrong a c) (Wrong b d) x y = wrong_one law plan ps a c b d x y
-fault_one law plan ps (Wrong a c) (Partial n) x y = absurd (wrong_or_part law plan ps a c n x y)
-fault_one law plan ps (Wrong a c) (TooLong n) x y = absurd y
-fault_one law plan ps (Partial m) (BadPiece l) x y = let held = x.held in absurd cc
-fault_one law plan ps (Partial m) (Wrong b d) x y = absurd (wrong_or_part law plan ps b d m y x)
-fault_one law plan ps (Partial m) (Partial n) x y = part_one plan ps m n x y
-fault_one law plan ps (Partial m) (TooLong n) x y = absurd y
-fault_one law plan ps (TooLong m) g x y = absurd x
+module _ (law : TestsAreFollowing) (one_more : OneMoreEntry) (legal_before : LegalBefore) where
+  -- ---- wrong entries
 
-never_both : TestsAreFollowing → (plan : PlanOf) (ps : List (List ℕ)) (r : Restored) (f : KeptFault) → IsRestored plan ps r → IsFault plan ps f → ⊥
-never_both law plan ps r (BadPiece k) x y = let held = x.held in absurd cc
-never_both law plan ps r (Wrong a c) x y =
-    let es : x.entries ≡ y.entries = same_held ps x.entries y.entries x.held y.held in
-    wrong_not_legal law plan y.entries a c y.wrong (subst (λ (fs : List Entry). IsLegal plan (reverse fs)) es x.book.legal)
-never_both law plan ps r (Partial n) x y =
-    let es : x.entries ≡ y.entries = same_held ps x.entries y.entries x.held y.held in
-    no_part plan (reverse y.entries) r.rounds n (subst (λ (fs : List Entry). IsUpTo plan r.rounds (reverse fs)) es (reaches plan ps r x).up_to) y.part.part
-never_both law plan ps r (TooLong n) x y = y
+  -- each entry of a legal history may follow those before it
+  legal_at : (plan : PlanOf) (entries : List Entry) (at : ℕ) (e : Entry) → IsLegal plan (reverse entries) → slice_get entries at ≡ Some e → MayFollow plan (before entries at) e
+  legal_at plan entries at e legal found =
+      let within = slice_get_within entries at e found in
+      let here : e ≡ get_or entries at e = sym (get_or_from_slice_get entries at e e found) in
+      let newer = reverse (drop (at + 1) entries) in
+      let split : reverse entries ≡ newer ++ (e ∷ reverse (take at entries)) =
+      ap (λ (es : List Entry). reverse es) (sym (take-append-drop (at + 1) entries))
+      ∙ reverse-append (take (at + 1) entries) (drop (at + 1) entries)
+      ∙ ap (λ (es : List Entry). newer ++ es) (one_more entries at e within here) in
+      (legal_before plan newer (e ∷ reverse (take at entries)) (subst (IsLegal plan) split legal)).0
 
-pub answers_are_one : TestsAreFollowing → AnswersAreOne
-answers_are_one law plan ps limits = (restored_one plan ps limits, fault_one law plan ps, never_both law plan ps)
+  wrong_not_legal : (plan : PlanOf) (entries : List Entry) (at clause : ℕ) → IsWrong plan entries at clause → IsLegal plan (reverse entries) → ⊥
+  wrong_not_legal plan entries at clause wrong legal =
+      (law plan (before entries at) wrong.entry).1 clause wrong.breaks (legal_at plan entries at wrong.entry legal wrong.found)
+
+  -- so the first wrong entry is at one place
+  none_before : (plan : PlanOf) (entries : List Entry) (at clause later : ℕ) → at < later → IsWrong plan entries at clause → IsLegal plan (before entries later) → ⊥
+  none_before plan entries at clause later below wrong legal =
+      let same : take at (take later entries) ≡ take at entries = take-take at later entries (omega arith) in
+      let found : slice_get (take later entries) at ≡ Some wrong.entry = get_take entries later at below ∙ wrong.found in
+      let follows = legal_at plan (take later entries) at wrong.entry legal found in
+      (law plan (before entries at) wrong.entry).1 clause wrong.breaks (subst (λ (es : List Entry). MayFollow plan (reverse es) wrong.entry) same follows)
+
+  one_place : (plan : PlanOf) (entries : List Entry) (at clause other third : ℕ) → IsWrong plan entries at clause → IsWrong plan entries other third → at ≡ other
+  one_place plan entries at clause other third first second =
+      ⊎_elim (λ below. absurd (none_before plan entries at clause other below first second.legal))
+      (λ above. ⊎_elim (λ below. absurd (none_before plan entries other third at below second first.legal)) (λ up. omega arith) (cases_lt other at)) (cases_lt at other)
+
+  one_clause : (plan : PlanOf) (entries : List Entry) (at clause third : ℕ) → IsWrong plan entries at clause → IsWrong plan entries at third → clause ≡ third
+  one_clause plan entries at clause third first second =
+      let found = first.found in
+      let again = second.found in
+      let same : second.entry ≡ first.entry = cc in
+      (law plan (before entries at) first.entry).2 clause third first.breaks (subst (λ (e : Entry). Breaks plan (before entries at) e third) same second.breaks)
+
+  -- ---- one answer
+
+  wrong_one : (plan : PlanOf) (ps : List (List ℕ)) (a c b d : ℕ) → IsWrongIn plan ps a c → IsWrongIn plan ps b d → Wrong a c ≡ Wrong b d
+  wrong_one plan ps a c b d x y =
+      let es : y.entries ≡ x.entries = same_held ps y.entries x.entries y.held x.held in
+      let other : IsWrong plan x.entries b d = subst (λ (fs : List Entry). IsWrong plan fs b d) es y.wrong in
+      let place : a ≡ b = one_place plan x.entries a c b d x.wrong other in
+      let clause : c ≡ d = one_clause plan x.entries a c d x.wrong (subst (λ (n : ℕ). IsWrong plan x.entries n d) (sym place) other) in
+      cc
+
+  wrong_or_part : (plan : PlanOf) (ps : List (List ℕ)) (a c n : ℕ) → IsWrongIn plan ps a c → IsPartIn plan ps n → ⊥
+  wrong_or_part plan ps a c n x y =
+      let es : y.entries ≡ x.entries = same_held ps y.entries x.entries y.held x.held in
+      wrong_not_legal plan x.entries a c x.wrong (subst (λ (fs : List Entry). IsLegal plan (reverse fs)) es y.legal)
+
+  fault_one : (plan : PlanOf) (ps : List (List ℕ)) (f g : KeptFault) → IsFault plan ps f → IsFault plan ps g → f ≡ g
+  fault_one plan ps (BadPiece k) (BadPiece l) x y = cc
+  fault_one plan ps (BadPiece k) (Wrong b d) x y = let held = y.held in absurd cc
+  fault_one plan ps (BadPiece k) (Partial n) x y = let held = y.held in absurd cc
+  fault_one plan ps (BadPiece k) (TooLong n) x y = absurd y
+  fault_one plan ps (Wrong a c) (BadPiece l) x y = let held = x.held in absurd cc
+  fault_one plan ps (Wrong a c) (Wrong b d) x y = wrong_one plan ps a c b d x y
+  fault_one plan ps (Wrong a c) (Partial n) x y = absurd (wrong_or_part plan ps a c n x y)
+  fault_one plan ps (Wrong a c) (TooLong n) x y = absurd y
+  fault_one plan ps (Partial m) (BadPiece l) x y = let held = x.held in absurd cc
+  fault_one plan ps (Partial m) (Wrong b d) x y = absurd (wrong_or_part plan ps b d m y x)
+  fault_one plan ps (Partial m) (Partial n) x y = part_one plan ps m n x y
+  fault_one plan ps (Partial m) (TooLong n) x y = absurd y
+  fault_one plan ps (TooLong m) g x y = absurd x
+
+  never_both : (plan : PlanOf) (ps : List (List ℕ)) (r : Restored) (f : KeptFault) → IsRestored plan ps r → IsFault plan ps f → ⊥
+  never_both plan ps r (BadPiece k) x y = let held = x.held in absurd cc
+  never_both plan ps r (Wrong a c) x y =
+      let es : x.entries ≡ y.entries = same_held ps x.entries y.entries x.held y.held in
+      wrong_not_legal plan y.entries a c y.wrong (subst (λ (fs : List Entry). IsLegal plan (reverse fs)) es x.book.legal)
+  never_both plan ps r (Partial n) x y =
+      let es : x.entries ≡ y.entries = same_held ps x.entries y.entries x.held y.held in
+      no_part plan (reverse y.entries) r.rounds n (subst (λ (fs : List Entry). IsUpTo plan r.rounds (reverse fs)) es (reaches plan ps r x).up_to) y.part.part
+  never_both plan ps r (TooLong n) x y = y
+
+  pub answers_are_one : AnswersAreOne
+  answers_are_one plan ps limits = (restored_one plan ps limits, fault_one plan ps, never_both plan ps)

@@ -3,26 +3,26 @@ use Rattle.std.proofs.Common.{◌≡◌, ℕ, ◌+◌, ◌<◌, ◌≤◌, List,
 use Rattle.std.specs.Prelude.{reverse}
 use Rattle.std.proofs.Math.Seq.{take-append_seam}
 use Rattle.std.proofs.lemmas.List.{length-reverse, length-take-le, reverse-append, reverse-reverse, take_all}
-use Rattle.cv_audit.proofs.Floors.{seen_more}
-use Rattle.cv_audit.proofs.Judging.{few_entries}
+use Rattle.cv_audit.specs.Statements.{OneMoreEntry}
 use Rattle.cv_base.specs.declared.entries.Entry.{Entry}
 use Rattle.cv_base.specs.PlanOf.{IsPlan, PlanOf}
 use Rattle.cv_desk.specs.Standing.{IsClosed}
 use Rattle.cv_histories.specs.Legal.{IsLegal}
 use Rattle.cv_histories.specs.Report.{entry_line, entry_lines, line}
-use Rattle.cv_laws.proofs.RunOrder.{count}
+use Rattle.cv_laws.specs.RoundStatements.{RunsAreCounted}
+use Rattle.cv_laws.specs.Statements.{LegalIsFew}
 use Rattle.cv_manager.specs.ManagerOf.{ManagerOf}
 use Rattle.cv_resume.specs.Resumed.{IsPieceOf}
 
 -- one entry's line more
-pub one_line_more : (entries : List Entry) (first k : ℕ) (e : Entry) (text new_line new : List ℕ) → k < length entries → e ≡ get_or entries k e
+pub one_line_more : OneMoreEntry → (entries : List Entry) (first k : ℕ) (e : Entry) (text new_line new : List ℕ) → k < length entries → e ≡ get_or entries k e
     → entry_lines (reverse (take k entries)) ≡ entry_lines (reverse (take first entries)) ++ text → new_line ≡ line (entry_line k e) → new ≡ text ++ new_line
     → entry_lines (reverse (take (k + 1) entries)) ≡ entry_lines (reverse (take first entries)) ++ new
-one_line_more entries first k e text new_line new within is so_far its added =
+one_line_more one_more entries first k e text new_line new within is so_far its added =
     let reach : k ≤ length entries = omega arith in
     let seen : length (reverse (take k entries)) ≡ k = length-reverse (take k entries) ∙ length-take-le k entries reach in
     let old = entry_lines (reverse (take first entries)) in
-    ap entry_lines (seen_more entries k e within is)
+    ap entry_lines (one_more entries k e within is)
     ∙ ap (λ (n : ℕ). entry_lines (reverse (take k entries)) ++ line (entry_line n e)) seen
     ∙ ap (λ (l : List ℕ). l ++ line (entry_line k e)) so_far
     ∙ append_assoc old text (line (entry_line k e))
@@ -37,8 +37,8 @@ all_lines entries first k text piece all so_far is =
     ap (λ (es : List Entry). entry_lines (reverse es)) (sym (take_all k entries all)) ∙ so_far ∙ ap (λ (l : List ℕ). entry_lines (reverse (take first entries)) ++ l) (sym is)
 
 -- a legal history of a plan has few entries
-pub few_in : (plan : PlanOf) (past : List Entry) → IsPlan plan → IsLegal plan past → length past ≤ 1024
-few_in plan past limits legal = omega (arith, few_entries plan past legal, count plan plan.rounds refl, limits.few_runs)
+pub few_in : LegalIsFew → RunsAreCounted → (plan : PlanOf) (past : List Entry) → IsPlan plan → IsLegal plan past → length past ≤ 1024
+few_in is_few counted plan past limits legal = omega (arith, is_few plan past legal, counted plan plan.rounds refl, limits.few_runs)
 
 -- the entries before those of a round
 before_round : (more before history : List Entry) (first : ℕ) → history ≡ reverse (more ++ before) → first ≡ length before → take first history ≡ reverse before

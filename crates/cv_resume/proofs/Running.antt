@@ -6,9 +6,9 @@ use Rattle.std.specs.List.{concat}
 use Rattle.cv_base.specs.declared.entries.Entry.{Entry}
 use Rattle.cv_base.specs.PlanOf.{PlanOf}
 use Rattle.cv_edge.specs.Disk.{LeavesOnly, Meaning, Only}
+use Rattle.cv_edge.specs.DiskLaws.{leaves_then, leaves_weaker}
 use Rattle.cv_histories.specs.Legal.{IsLegal, IsWhole}
 use Rattle.cv_histories.specs.Report.{entry_lines}
-use Rattle.cv_keep.proofs.Moments.{then_calls, weaker}
 use Rattle.cv_keep.specs.Pieces.{pieces}
 use Rattle.cv_manager.specs.ManagerOf.{ManagerOf}
 use Rattle.cv_resume.proofs.Growing.{rounds_join}
@@ -33,7 +33,7 @@ module _ {D : Type 0} (means : Meaning D) (plan : PlanOf) (a b : D) where
   recovering images = λ tells only. record {
     more = [];
     rounds = tt;
-    images = weaker means a b (λ x. pieces x ≡ pieces (means.content a)) (HoldsFirst (pieces_on means a) []) (holds_none (pieces_on means a) []) (images tells only);
+    images = leaves_weaker means a b (λ x. pieces x ≡ pieces (means.content a)) (HoldsFirst (pieces_on means a) []) (holds_none (pieces_on means a) []) (images tells only);
   }
 
 module _ {D : Type 0} (means : Meaning D) (plan : PlanOf) (ps : List (List ℕ)) (r : Restored) (a b c : D) (restored : IsRestored plan ps r) (found : means.tells → ps ≡ pieces_on means a) (content : means.tells → pieces_on means b ≡ pieces_on means a) where
@@ -97,8 +97,8 @@ module _ {D : Type 0} (means : Meaning D) (plan : PlanOf) (ps : List (List ℕ))
           legal = subst (λ (p : PlanOf). IsLegal p left.past) restored.book.of_plan left.legal;
           adds = adds left.more left.past left.rounds tells;
         });
-    images = then_calls means a b c (HoldsFirst (pieces_on means a) left.more)
-        (weaker means a b (λ x. pieces x ≡ pieces (means.content a)) (HoldsFirst (pieces_on means a) left.more) (holds_none (pieces_on means a) left.more) (images tells only))
-        (weaker means b c (HoldsFirst (pieces_on means b) left.more) (HoldsFirst (pieces_on means a) left.more)
+    images = leaves_then means a b c (HoldsFirst (pieces_on means a) left.more)
+        (leaves_weaker means a b (λ x. pieces x ≡ pieces (means.content a)) (HoldsFirst (pieces_on means a) left.more) (holds_none (pieces_on means a) left.more) (images tells only))
+        (leaves_weaker means b c (HoldsFirst (pieces_on means b) left.more) (HoldsFirst (pieces_on means a) left.more)
         (λ x has. subst (λ (l : List (List ℕ)). HoldsFirst l left.more x) (content tells) has) (left.images tells));
   }

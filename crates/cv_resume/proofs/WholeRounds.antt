@@ -3,6 +3,7 @@ use Rattle.std.proofs.Common.{◌≡◌, ℕ, ◌<◌, ◌≤◌, List, [], ◌�
 use Rattle.std.specs.Prelude.{◌≢◌, IsSomeAnd}
 use Rattle.std.specs.List.{AllByRecursion}
 use Rattle.std.proofs.lemmas.Bool.{cases_lt}
+use Rattle.std.proofs.lemmas.List.Elements.{Contains-append_right}
 use Rattle.std.proofs.lemmas.Option.{slice_get_within}
 use Rattle.cv_audit.specs.Clauses.{HasRun}
 use Rattle.cv_audit.specs.Judged.{IsLeast}
@@ -11,9 +12,8 @@ use Rattle.cv_base.specs.PlanOf.{PlanOf}
 use Rattle.cv_desk.specs.Openings.{IsUpTo}
 use Rattle.cv_histories.specs.Legal.{IsLegal, IsWhole, round_in, round_of}
 use Rattle.cv_histories.specs.Runs.{Run, run_at, runs}
-use Rattle.cv_laws.proofs.Each.{of_one}
-use Rattle.cv_laws.proofs.InOrder.{has_later}
-use Rattle.cv_laws.proofs.RunOrder.{earlier_below}
+use Rattle.cv_laws.specs.Each.{of_one}
+use Rattle.cv_laws.specs.RoundStatements.{EarlierIsBelow}
 use Rattle.cv_resume.specs.Refusing.{HasEntryOf}
 use Rattle.cv_resume.specs.Restored.{IsFirstPart, IsOfRound}
 use Rattle.cv_resume.proofs.Rounds.{get_there, round_within}
@@ -55,15 +55,18 @@ whole_is_up_to plan past n is legal whole =
 
 -- ---- the least run that has no entry
 
+with_newer : (k : ℕ) (e : Entry) (past : List Entry) → HasRun past k → HasRun (e ∷ past) k
+with_newer k e past has = (has.0, Contains-append_right (e ∷ []) past has.0 has.1, has.2)
+
 -- no entry is of a later round, and where none is of its round, all are of earlier ones
 no_later : (plan : PlanOf) (k : ℕ) (r : Run) → run_at plan k ≡ Some r → (past : List Entry) → IsLegal plan past → (HasRun past k → ⊥) → AllByRecursion (λ (o : Entry). round_of plan o ≢ r.round) past
     → AllByRecursion (λ (o : Entry). round_of plan o < r.round) past
 no_later plan k r at [] legal lacks apart = tt
 no_later plan k r at (e ∷ past) legal lacks apart = (
   ⊎_elim (λ below. below)
-      (λ above. ⊎_elim (λ later. absurd (lacks (has_later k e past (legal.0.rounds k r at later)))) (λ low. absurd (apart.0 (omega arith))) (cases_lt r.round (round_of plan e)))
+      (λ above. ⊎_elim (λ later. absurd (lacks (with_newer k e past (legal.0.rounds k r at later)))) (λ low. absurd (apart.0 (omega arith))) (cases_lt r.round (round_of plan e)))
       (cases_lt (round_of plan e) r.round),
-  no_later plan k r at past legal.1 (λ has. lacks (has_later k e past has)) apart.1,
+  no_later plan k r at past legal.1 (λ has. lacks (with_newer k e past has)) apart.1,
 )
 
 module _ (plan : PlanOf) (past : List Entry) (k : ℕ) (legal : IsLegal plan past) (least : IsLeast plan past k) where
@@ -81,19 +84,19 @@ module _ (plan : PlanOf) (past : List Entry) (k : ℕ) (legal : IsLegal plan pas
       omega arith
 
   -- all runs of earlier rounds have entries, and where none is of its round, no others have
-  pub least_up_to : (round : ℕ) → round ≡ round_in (run_at plan k) → AllByRecursion (λ (o : Entry). round_of plan o ≢ round) past → IsUpTo plan round past
-  least_up_to round is apart =
+  pub least_up_to : EarlierIsBelow → (round : ℕ) → round ≡ round_in (run_at plan k) → AllByRecursion (λ (o : Entry). round_of plan o ≢ round) past → IsUpTo plan round past
+  least_up_to earlier_is_below round is apart =
       let r = of_least.0 in
       let same = its_round round is in
       subst (λ (n : ℕ). IsUpTo plan n past) same
       (record {
-        all = λ number run at below. least.least number (earlier_below plan k number r run of_least.1 at below);
+        all = λ number run at below. least.least number (earlier_is_below plan k number r run of_least.1 at below);
         no_others = no_later plan k r of_least.1 past legal least.none (subst (λ (n : ℕ). AllByRecursion (λ (o : Entry). round_of plan o ≢ n) past) (sym same) apart);
       })
 
   -- else it is the first round of which a part is kept
-  pub least_part : (round : ℕ) → round ≡ round_in (run_at plan k) → HasEntryOf plan round past → IsFirstPart plan past round
-  least_part round is has =
+  pub least_part : EarlierIsBelow → (round : ℕ) → round ≡ round_in (run_at plan k) → HasEntryOf plan round past → IsFirstPart plan past round
+  least_part earlier_is_below round is has =
       let r = of_least.0 in
       let same = its_round round is in
       let e = has.0 in
@@ -108,5 +111,5 @@ module _ (plan : PlanOf) (past : List Entry) (k : ℕ) (legal : IsLegal plan pas
         };
         first = λ earlier below part.
             let other = some_of (λ (run : Run). run.round ≡ earlier) (run_at plan part.other) part.other_in in
-            part.lacks (least.least part.other (earlier_below plan k part.other r other.0 of_least.1 other.1 (omega (arith, same, other.2))));
+            part.lacks (least.least part.other (earlier_is_below plan k part.other r other.0 of_least.1 other.1 (omega (arith, same, other.2))));
       }

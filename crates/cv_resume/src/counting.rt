@@ -7,9 +7,10 @@ ghost use Rattle.cv_histories.specs.Legal.{IsLegal, round_of};
 ghost use Rattle.cv_resume.specs.Refusing.{HasEntryOf};
 ghost use Rattle.cv_resume.specs.Restored.{IsFirstPart};
 
-use cv_audit::{missing, round_of};
+use cv_audit::{entries_are_contained, missing, round_of};
 use cv_base::{Entry, Plan};
 use cv_core::Book;
+use cv_laws::earlier_is_below;
 
 /// How many rounds are done, where all their runs have an entry and no others have; else the first
 /// round of which some runs have an entry and some have none.
@@ -19,6 +20,7 @@ pub(crate) fn rounds_done(book: &Book) -> Result<u32, u32>
     ensures part { IfErr result (IsFirstPart book.now.plan book.now.past) }
     ensures legal { IsLegal book.now.plan book.now.past }
 {
+    earlier_is_below();
     let plan = book.plan();
     let history = book.manager().history();
     let Some(run) = missing(book) else {
@@ -36,6 +38,7 @@ fn is_begun(plan: &Plan, history: &[Entry], round: u32) -> bool
     ensures some { IsTrue result → HasEntryOf plan.now round (reverse history.now) }
     ensures none { IsFalse result → AllByRecursion (λ (o : AnEntry). round_of plan.now o ≢ round) (reverse history.now) }
 {
+    entries_are_contained();
     for entry in history {
         if round_of(plan, entry.run) == round {
             return true;

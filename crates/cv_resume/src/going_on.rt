@@ -13,6 +13,7 @@ use cv_base::{Items, NoMemory, Plan};
 use cv_core::Book;
 use cv_edge::{Disk, Gate};
 use cv_keep::{Keep, KeepEnd, KeepFail};
+use cv_laws::{legal_is_few, runs_are_counted};
 use cv_worker::one_round;
 use std::alloc::Global;
 use std::sync::Wait;
@@ -94,6 +95,8 @@ fn count_of(book: &Book) -> usize
     ensures few { length book.now.past ≤ 1024 }
     ensures legal { IsLegal book.now.plan book.now.past }
 {
+    legal_is_few();
+    runs_are_counted();
     limits(book.plan());
     book.manager().history().len()
 }

@@ -8,7 +8,7 @@ ghost use Rattle.cv_resume.specs.Kept.{entries_at, entries_in, entries_of, lines
 ghost use Rattle.cv_resume.specs.Texts.{texts_of};
 
 use cv_base::{Entry, Items, NoMemory};
-use cv_journal::{lines_read_exactly, read_line};
+use cv_journal::{lines_read_exactly, numbers_are_read_back, read_line};
 use std::alloc::{AllocError, Global};
 
 /// The number that no piece may have: a plan has at most 64 rounds.
@@ -102,6 +102,7 @@ fn with_lines(
 fn entry_at(alloc: Global, number: usize, line: &[u8]) -> Result<Option<Entry>, NoMemory>
     ensures { IfOk result (λ o. o ≡ entry_in number line.now) }
 {
+    numbers_are_read_back();
     match u32::try_from(number) {
         Ok(number) => entry_in(alloc, number, line),
         Err(_) => Ok(None),

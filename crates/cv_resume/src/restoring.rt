@@ -11,7 +11,7 @@ use crate::{KeptFault, RestoreFail, entries_of};
 use cv_audit::{Rebuilt, rebuild};
 use cv_base::{Entry, Items, Plan};
 use cv_core::Book;
-use cv_journal::lines_read_exactly;
+use cv_journal::{lines_read_exactly, numbers_are_read_back, pieces_are_some, pieces_join_again};
 use std::alloc::Global;
 
 /// A book that was restored.
@@ -34,6 +34,9 @@ pub fn restore(alloc: Global, plan: Plan, pieces: &[Items<u8>]) -> Result<Restor
     ensures joined { IfOk result (λ r. concat pieces.now ≡ entry_lines r.book.past) }
 {
     lines_read_exactly();
+    numbers_are_read_back();
+    pieces_join_again();
+    pieces_are_some();
     match entries_of(alloc, pieces)? {
         Ok(entries) => rebuilt(alloc, plan, entries.as_slice()),
         Err(piece) => Err(RestoreFail::Refused(KeptFault::BadPiece(piece))),

@@ -2,6 +2,7 @@
 ghost use Rattle.std.specs.Prelude.{◌≡◌, ◌++◌, ◌≤◌, length, reverse, take, IfOk};
 ghost use Rattle.cv_histories.specs.Report.{entry_lines};
 
+use cv_audit::one_more_entry;
 use cv_base::{Entry, Items, NoMemory};
 use cv_report::entry_line;
 use std::alloc::Global;
@@ -17,6 +18,7 @@ pub(crate) fn lines_from(
     requires few { length history.now ≤ 1024 }
     ensures { IfOk result (λ piece. entry_lines (reverse history.now) ≡ entry_lines (reverse (take first history.now)) ++ piece) }
 {
+    one_more_entry();
     let mut text = String::new(alloc);
     for number in first..history.len() {
         let line = entry_line(alloc, number as u32, &history[number])?;

@@ -8,6 +8,7 @@ use mathlib.Core.List.{IsPrefix}
 use Rattle.cv_rule.proofs.Places.{at_longer, each_join, each_set, each_split, only_one, same_place, set_else, set_here}
 use Rattle.cv_rule.proofs.Prefixes.{all_append, all_more, also_begins_longer, begins_longer, longer_begins, longer_one, longer_whole, prefix_append, prefix_length, prefix_self, prefix_trans}
 use Rattle.cv_rule.specs.Counts.{Within, entry_with, longer}
+use Rattle.cv_rule.specs.Laws.{WithinGrows}
 use Rattle.cv_rule.specs.Rule.{AreVersions, Has, IsKnown, IsVersionsView}
 use Rattle.cv_rule.specs.Steps.{drawn, entered, entries_of, giving_back, joined, known_at_start, master_at_start, merged, merging, new_pass, note_of, noted_in, posting, renewed, seating, sending, settled, settled_by, spent}
 use Rattle.cv_rule.specs.declared.view.Known.{Known}
@@ -25,6 +26,9 @@ within_push low high high' (n ∷ ns) a b w = (w.0, omega (arith, w.1), within_p
 pub within_high : (low high high' : ℕ) (ns : List ℕ) → high ≤ high' → Within low high ns → Within low high' ns
 within_high low high high' [] b w = tt
 within_high low high high' (n ∷ ns) b w = (w.0, omega (arith, w.1), within_high n high high' ns b w.2)
+
+pub within_grows : WithinGrows
+within_grows low high more loaded above w = (within_high low high more loaded above w, λ from. within_push low high more loaded from above w)
 
 -- what holds of each entry holds of one that was found
 pub found_in : (P : Posted → Type 0) (draw : ℕ) (ts : List Posted) (t : Posted) → AllByRecursion P ts → entry_with draw ts ≡ Some t → P t

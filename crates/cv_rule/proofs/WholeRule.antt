@@ -9,10 +9,10 @@ use Rattle.cv_rule.proofs.Order.{draws_in_order, enters_in_order, floor_back, gi
 use Rattle.cv_rule.proofs.Places.{set_else}
 use Rattle.cv_rule.proofs.Prefixes.{also_begins_longer, begins_longer, longer_whole, prefix_length}
 use Rattle.cv_rule.proofs.Totals.{at_most_total, total_le}
-use Rattle.cv_rule.proofs.Versions.{draws, enters, gives_back, joins, notes, posts, renews, seats, sends, starts}
-use Rattle.cv_rule.specs.Counts.{IsAbove, Within, carried, entry_with, idle_rows, if_so, longer, posted_of, rows_of}
-use Rattle.cv_rule.specs.Laws.{AnnounceKeeps, BookKeeps, CloseHasRuns, DrawKeeps, DrawsAreFew, EndKeeps, EnterKeeps, GiveBackKeeps, IsWithinFloors, LoadedMayBePosted, NewsKeeps, NoteKeeps, RenewKeeps, RowMayBePosted, SeatKeeps, SendKeeps, StartIsRuled, TakeBackKeeps, TakeKeeps}
-use Rattle.cv_rule.specs.Rule.{Has, IsFloor, Ruled}
+use Rattle.cv_rule.proofs.Versions.{draws, enters, gives_back, joins, notes, posts, renewed_role, renews, seats, sends, starts}
+use Rattle.cv_rule.specs.Counts.{IsAbove, Within, carried, entry_with, if_so, longer, posted_of, rows_of}
+use Rattle.cv_rule.specs.Laws.{AnnounceKeeps, BookKeeps, CloseHasRuns, DrawKeeps, DrawsAreFew, EndKeeps, EnterKeeps, GiveBackKeeps, IsWithinFloors, LoadedMayBePosted, NewsKeeps, NoteKeeps, PastRuns, RenewKeeps, RenewedStays, RowMayBePosted, SeatKeeps, SendKeeps, StartIsRuled, TakeBackKeeps, TakeKeeps}
+use Rattle.cv_rule.specs.Rule.{IsFloor}
 use Rattle.cv_rule.specs.Steps.{entries_of, joined, merged, others_of, renewed, settled, settled_by, way_with, merging}
 use Rattle.cv_rule.specs.declared.view.Known.{Known}
 use Rattle.cv_rule.specs.declared.view.Opening.{Opening}
@@ -109,6 +109,9 @@ module _ (M T : Type 0) where
 
   pub renewed_within : (v : View M T) → Within v.floor v.reach v.loaded → Within (renewed v).floor (renewed v).reach (renewed v).loaded
   renewed_within v w = settled_by_within (merging v) v.on_its_way w
+
+  pub renewed_stays : RenewedStays M T
+  renewed_stays v = record { role = renewed_role v; hand = renewed_hand v; known = renewed_known v; within = renewed_within v }
 
   pub renew_keeps : RenewKeeps M T
   renew_keeps o word0 word1 views id v k at live =
@@ -342,7 +345,7 @@ module _ (M T : Type 0) where
       loaded_within o m r v.floor v.reach v.loaded within (subst (λ (f : ℕ). IsFloor o m.known.posted r.worker f) (sym same) may.floor) (omega arith)
 
   -- an idle row in a hand shows that some draw was no run
-  pub past_runs : (o : Opening M) (word0 word1 : ℕ) (views : List (View M T)) (id : ℕ) (v : View M T) → Ruled o word0 word1 views → Has views id v → 0 < idle_rows o.runs v.hand → o.runs < word1
+  pub past_runs : PastRuns M T
   past_runs o word0 word1 views id v k at idle =
       let row = idle_row o.runs v.hand idle in
       let rows = at_most_total (Rows row.0) views id v at in

@@ -3,9 +3,9 @@
 use Rattle.std.specs.Prelude.{◌≡◌, ◌≢◌, ◌≤◌, ◌<◌, ◌+◌, ◌-◌, ℕ, List, [], ◌∷◌, ◌++◌, length, Some, None, slice_set}
 use Rattle.std.specs.List.{AllByRecursion}
 use mathlib.Core.List.{IsPrefix}
-use Rattle.cv_rule.specs.Counts.{IsAbove, Within, below, entry_with, posted_of, times}
+use Rattle.cv_rule.specs.Counts.{IsAbove, Within, below, entry_with, idle_rows, longer, posted_of, times}
 use Rattle.cv_rule.specs.Rule.{Has, IsFloor, Ruled}
-use Rattle.cv_rule.specs.Steps.{announced, booked, drawn, entered, giving_back, joined, master_at_start, new_pass, note_of, renewed, seating, sending, spent}
+use Rattle.cv_rule.specs.Steps.{announced, booked, drawn, entered, giving_back, joined, master_at_start, merged, new_pass, note_of, renewed, seating, sending, spent}
 use Rattle.cv_rule.specs.declared.view.Opening.{Opening}
 use Rattle.cv_rule.specs.declared.view.Posted.{Posted}
 use Rattle.cv_rule.specs.declared.view.Role.TheVariants.{Master, Pass, Note, Spent}
@@ -70,6 +70,26 @@ RenewKeeps M T =
     (o : Opening M) (word0 word1 : ℕ) (views : List (View M T)) (id : ℕ) (v : View M T) → Ruled o word0 word1 views → Has views id v
     → v.role ≢ Spent
     → Ruled o word0 word1 (slice_set views id (renewed v)) × IsRenewal o v (renewed v) × (v.role ≡ Master → KnewAll v (renewed v))
+
+-- and what it leaves as it was: the role and the hand; the lists become the longer ones, and loaded versions stay within floor and reach
+pub record HasStayed {M T : Type 0} (v w : View M T) : Type 0 where
+  pub role : w.role ≡ v.role
+  pub hand : w.hand ≡ v.hand
+  pub known : w.known ≡ merged v.known v.beside
+  pub within : Within v.floor v.reach v.loaded → Within w.floor w.reach w.loaded
+
+abbrev pub RenewedStays : Type 0 → Type 0 → Type 0
+RenewedStays M T = (v : View M T) → HasStayed v (renewed v)
+
+-- a list begins the longer of it and another
+abbrev pub LongerBegins : Type 0 → Type 0
+LongerBegins A = (xs ys : List A) → IsPrefix xs (longer xs ys)
+
+-- loaded versions are within each higher bound, and with that bound as one more version
+abbrev pub WithinGrows : Type 0
+WithinGrows =
+    (low high more : ℕ) (loaded : List ℕ) → high ≤ more → Within low high loaded
+    → Within low more loaded × (low ≤ more → Within low more (loaded ++ more ∷ []))
 
 -- ---- a post
 
@@ -182,6 +202,13 @@ EndKeeps M T =
     → Ruled o word0 word1 (after_join views id other m w)
 
 -- ---- close
+
+-- a row in a hand that is no run of the round tells that more was drawn than the round has runs
+abbrev pub PastRuns : Type 0 → Type 0 → Type 0
+PastRuns M T =
+    (o : Opening M) (word0 word1 : ℕ) (views : List (View M T)) (id : ℕ) (v : View M T) → Ruled o word0 word1 views → Has views id v
+    → 0 < idle_rows o.runs v.hand
+    → o.runs < word1
 
 -- when every worker is without a pass and some draw was no run, the book list has each run of the round once, and no other
 abbrev pub CloseHasRuns : Type 0 → Type 0 → Type 0

@@ -1,6 +1,6 @@
 //! Each kind of step keeps the rule, and what it tells. `M` is what there was at the making, and
 //! `T` the tables of the versions.
-ghost use Rattle.cv_rule.specs.Laws.{StartIsRuled, SeatKeeps, EnterKeeps, RenewKeeps, BookKeeps, AnnounceKeeps, DrawKeeps, DrawsAreFew, NoteKeeps, SendKeeps, GiveBackKeeps, TakeKeeps, NewsKeeps, TakeBackKeeps, EndKeeps, CloseHasRuns, RowMayBePosted, LoadedMayBePosted, PostSettles, BookedIsFound};
+ghost use Rattle.cv_rule.specs.Laws.{StartIsRuled, SeatKeeps, EnterKeeps, RenewKeeps, RenewedStays, LongerBegins, WithinGrows, BookKeeps, AnnounceKeeps, DrawKeeps, DrawsAreFew, NoteKeeps, SendKeeps, GiveBackKeeps, TakeKeeps, NewsKeeps, TakeBackKeeps, EndKeeps, PastRuns, CloseHasRuns, RowMayBePosted, LoadedMayBePosted, PostSettles, BookedIsFound};
 
 /// The rule holds at the start.
 pub fn start_is_ruled<M, T>()
@@ -20,6 +20,21 @@ pub fn enter_keeps<M, T>()
 /// A seat loads word 0 after a join.
 pub fn renew_keeps<M, T>()
     ensures { RenewKeeps M T }
+{}
+
+/// What a load after a join leaves as it was.
+pub fn renewed_stays<M, T>()
+    ensures { RenewedStays M T }
+{}
+
+/// A list begins the longer of it and another.
+pub fn longer_begins<T>()
+    ensures { LongerBegins T }
+{}
+
+/// Loaded versions are within each higher bound.
+pub fn within_grows()
+    ensures { WithinGrows }
 {}
 
 /// The master loads word 0 in a post without a new version.
@@ -75,6 +90,11 @@ pub fn take_back_keeps<M, T>()
 /// The master takes a pass.
 pub fn end_keeps<M, T>()
     ensures { EndKeeps M T }
+{}
+
+/// A row that is no run tells that all runs were drawn.
+pub fn past_runs<M, T>()
+    ensures { PastRuns M T }
 {}
 
 /// A closed office's book list has the round's runs.

@@ -16,7 +16,7 @@ use Rattle.cv_histories.specs.Honest.{IsHonest}
 use Rattle.cv_histories.specs.Rows.{written}
 use Rattle.cv_histories.specs.Runs.{Run, run_at}
 use Rattle.cv_histories.specs.World.{numbers_of}
-use Rattle.cv_laws.proofs.Rounds.{numbers_are}
+use Rattle.cv_laws.specs.RoundStatements.{NumbersAreOfRound}
 use Rattle.cv_rule.specs.Steps.{drawn, worker_of}
 use Rattle.cv_rule.specs.declared.view.Opening.{Opening}
 use Rattle.cv_rule.specs.declared.view.Post.{Post}
@@ -41,14 +41,14 @@ may_run plan round i v w t ready at same ticket =
     }
 
 -- its run is one of the plan
-has_run : (plan : PlanOf) (round : ℕ) (v : Sight) (t : TicketOf) → MayRun plan round v t → (run : Run) × (run_at plan t.run ≡ Some run)
-has_run plan round v t may =
+has_run : NumbersAreOfRound → (plan : PlanOf) (round : ℕ) (v : Sight) (t : TicketOf) → MayRun plan round v t → (run : Run) × (run_at plan t.run ≡ Some run)
+has_run numbers_are plan round v t may =
     let of = numbers_are may.ticket.setting.plan may.ticket.setting.round t.draw t.run may.ticket.run in
     (of.run, subst (λ (p : PlanOf). run_at p t.run ≡ Some of.run) may.of_plan of.of_plan)
 
-pub has_mode : (plan : PlanOf) (round : ℕ) (v : Sight) (t : TicketOf) (run : ℕ) (mode : Option Mode) → MayRun plan round v t → run ≡ t.run → mode ≡ option_map (λ (r : Run). r.mode) (run_at plan run) → mode ≡ None → ⊥
-has_mode plan round v t run mode may of is none =
-    let got = has_run plan round v t may in
+pub has_mode : NumbersAreOfRound → (plan : PlanOf) (round : ℕ) (v : Sight) (t : TicketOf) (run : ℕ) (mode : Option Mode) → MayRun plan round v t → run ≡ t.run → mode ≡ option_map (λ (r : Run). r.mode) (run_at plan run) → mode ≡ None → ⊥
+has_mode numbers_are plan round v t run mode may of is none =
+    let got = has_run numbers_are plan round v t may in
     let at : run_at plan run ≡ Some got.0 = ap (run_at plan) of ∙ got.1 in
     let some : option_map (λ (r : Run). r.mode) (run_at plan run) ≡ Some got.0.mode = ap (λ (o : Option Run). option_map (λ (r : Run). r.mode) o) at in
     cc

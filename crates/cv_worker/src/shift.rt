@@ -16,6 +16,7 @@ use cv_base::{Mode, NoMemory, Plan};
 use cv_desk::{Office, Pass, Seated, Ticket, Unposted};
 use cv_edge::{Gate, Moment};
 use cv_exec::{Arena, Record, mode_of};
+use cv_laws::numbers_are_of_round;
 use cv_observe::Summary;
 use cv_office::Named;
 use std::alloc::Global;
@@ -81,6 +82,7 @@ impl<'a, N: Named, R: Wait, G: Gate> Shift<'a, N, R, G> {
         ensures seen { IfOk result.outcome (λ r. is_observed r.entry ≡ true → StandsFor arena.new.summary (observed_of self.now.plan.now (run_at self.now.plan.now r.entry.run))) }
         ensures plan { arena.new.plan ≡ arena.old.plan }
     {
+        numbers_are_of_round();
         match mode_of(self.plan, ticket.run()) {
             Some(Mode::Learn) => self.learn(arena, pass, ticket),
             Some(Mode::Live) => self.live(arena, pass, ticket),

@@ -1,7 +1,6 @@
 -- A run that goes on in an arena, and its flight in the world.
-use Rattle.std.proofs.Common.{◌≡◌, ◌≤◌, ◌-◌, ◌∙◌, ℕ, Bool, true, false, List, [], ◌∷◌, length, Option, Some, None, refl, sym, ap, subst}
-use Rattle.std.specs.Prelude.{◌&&◌, ◌||◌, not, is_some, option_map, slice_get, IfSome}
-use Rattle.std.proofs.lemmas.Option.{same_Some}
+use Rattle.std.proofs.Common.{◌≡◌, ◌-◌, ◌∙◌, ℕ, Bool, true, false, List, [], ◌∷◌, length, Some, refl, sym, ap}
+use Rattle.std.specs.Prelude.{◌&&◌, ◌||◌, not, option_map, slice_get, IfSome}
 use Rattle.cv_base.specs.PlanOf.{PlanOf}
 use Rattle.cv_exec.specs.ArenaOf.{Going, entered, entry_of_going, flies_so, flight_in, is_over, one_more, wants}
 use Rattle.cv_exec.specs.LiveRun.{HaveTables, MayAdopt, Span, adoptions_of}
@@ -71,8 +70,8 @@ module _ (plan : PlanOf) (versions : List Table) (i : ℕ) (g : Going) (goes : I
   pub turned_goes : IfSome (one_more (Some g)) (IsGoing plan versions i)
   turned_goes = record { run = goes.run; of_plan = goes.of_plan; worker = goes.worker; tables = goes.tables }
 
-  pub may_adopt : 1 ≤ length versions → MayAdopt (length versions - 1) (newest_of versions) g.adopted
-  may_adopt some = may_adopt_newest versions g.adopted some goes.tables
+  pub may_adopt : slice_get versions (length versions - 1) ≡ Some (newest_of versions) → MayAdopt (length versions - 1) (newest_of versions) g.adopted
+  may_adopt last = may_adopt_newest versions g.adopted last goes.tables
 
-  pub entered_goes : 1 ≤ length versions → IfSome (entered (length versions - 1) (newest_of versions) (Some g)) (IsGoing plan versions i)
-  entered_goes some = record { run = goes.run; of_plan = goes.of_plan; worker = goes.worker; tables = have_newest versions g.adopted some goes.tables }
+  pub entered_goes : slice_get versions (length versions - 1) ≡ Some (newest_of versions) → IfSome (entered (length versions - 1) (newest_of versions) (Some g)) (IsGoing plan versions i)
+  entered_goes last = record { run = goes.run; of_plan = goes.of_plan; worker = goes.worker; tables = have_newest versions g.adopted last goes.tables }

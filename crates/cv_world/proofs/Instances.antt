@@ -1,12 +1,11 @@
 -- The instances of a world and its flights, where one instance changes.
-use Rattle.std.proofs.Common.{◌≡◌, ◌≤◌, ◌<◌, ℕ, zero, suc, ◌⊎◌, inl, inr, ⊎_elim, List, [], ◌∷◌, length, map, Option, Some, None, refl, sym, ap, ◌∙◌, arith}
+use Rattle.std.proofs.Common.{◌≡◌, ◌≤◌, ◌<◌, ◌-◌, ℕ, zero, suc, cond, Bool, ◌⊎◌, inl, inr, ⊎_elim, List, [], ◌∷◌, length, map, Option, Some, None, refl, sym, ap, ◌∙◌, ne_eqb, arith}
 use Rattle.std.specs.Prelude.{slice_get, slice_index_or, slice_set}
 use Rattle.std.proofs.lemmas.List.{get_or_read, length-map}
 use Rattle.std.proofs.lemmas.Option.{none-some, same_Some, slice_get_past}
 use Rattle.cv_base.specs.PlanOf.{PlanOf}
 use Rattle.cv_histories.specs.Flight.{Flight}
 use Rattle.cv_histories.specs.World.{set_flight}
-use Rattle.cv_laws.proofs.Slots.{set_later}
 use Rattle.cv_exec.specs.ArenaOf.{flight_in}
 use Rattle.cv_world.specs.InstanceOf.{InstanceOf}
 
@@ -23,6 +22,13 @@ flight_at plan (y ∷ xs) (suc i) x at = flight_at plan xs i x at
 -- past the last instance is no flight
 pub none_past : (plan : PlanOf) (xs : List InstanceOf) (i : ℕ) → length xs ≤ i → slice_get (flights_of plan xs) i ≡ None
 none_past plan xs i past = slice_get_past (flights_of plan xs) i (simp length-map past)
+
+-- a flight set behind the first leaves the first
+set_later : (f : Option Flight) (fs : List (Option Flight)) (i : ℕ) (g : Option Flight) → set_flight (f ∷ fs) (suc i) g ≡ f ∷ set_flight fs i g
+set_later f fs i g =
+    let behind : suc i - 1 ≡ i = omega arith in
+    ap (λ (b : Bool). cond b (g ∷ fs) (f ∷ set_flight fs (suc i - 1) g)) (ne_eqb (suc i) 0 (λ same. omega arith))
+    ∙ ap (λ (j : ℕ). f ∷ set_flight fs j g) behind
 
 -- with another instance at place i
 pub set_flights : (plan : PlanOf) (xs : List InstanceOf) (i : ℕ) (x : InstanceOf) → flights_of plan (slice_set xs i x) ≡ set_flight (flights_of plan xs) i (flight_in plan x.going)

@@ -10,15 +10,15 @@ use Rattle.cv_exec.specs.ArenaOf.{Going, entry_of_going, is_over}
 use Rattle.cv_histories.specs.Legal.{MayFollow}
 use Rattle.cv_histories.specs.Flight.{flight_entry, has_ended}
 use Rattle.cv_histories.specs.World.{Post, World, current_round, drawn_after, event, event_at, post_with}
-use Rattle.cv_laws.proofs.Posts.{post_follows, post_stands}
-use Rattle.cv_laws.proofs.Versions.{tables_stay}
+use Rattle.cv_laws.specs.Statements.{EndedMayFollow, WorldsStand}
+use Rattle.cv_laws.specs.VersionStatements.{TablesStay}
 use Rattle.cv_manager.specs.ManagerOf.{ManagerOf, with_entry}
 use Rattle.cv_exec.specs.ArenaOf.{flight_in}
 use Rattle.cv_world.specs.InstanceOf.{InstanceOf}
 use Rattle.cv_world.specs.Stands.{IsGoing, IsInstance, IsWorld}
 use Rattle.cv_world.proofs.Goings.{ended_same, entry_same, grown_goes}
 use Rattle.cv_world.proofs.Instances.{flight_at}
-use Rattle.cv_world.proofs.Standing.{IsAloft, Leaves, aloft, if_disabled, if_enabled, put, put_stands, versions_in, world_in}
+use Rattle.cv_world.proofs.Standing.{IsAloft, Leaves, aloft, if_disabled, if_enabled, put, put_stands, stands_after, versions_in, world_in}
 
 -- ---- the draws
 
@@ -98,10 +98,10 @@ module _ (book : ManagerOf) (drawn : ℕ) (xs : List InstanceOf) (is : IsWorld b
   done = done_by x.going refl
 
   -- its entry may follow
-  pub post_may : is_over x.plan x.going ≡ true → IfSome (entry_of_going x.plan x.going) (MayFollow book.plan book.past)
-  post_may over =
+  pub post_may : EndedMayFollow → is_over x.plan x.going ≡ true → IfSome (entry_of_going x.plan x.going) (MayFollow book.plan book.past)
+  post_may follows over =
       let d = done over in
-      subst (λ (o : Option Entry). IfSome o (MayFollow book.plan book.past)) (sym d.entry) (post_follows book.plan w i d.aloft_is.flight is.stands d.aloft_is.there d.ended)
+      subst (λ (o : Option Entry). IfSome o (MayFollow book.plan book.past)) (sym d.entry) (follows book.plan w i d.aloft_is.flight is.stands d.aloft_is.there d.ended)
 
   -- a run that has not ended is not posted, by what the instance has
   disabled_by : (o : Option Going) → x.going ≡ o → is_over x.plan o ≡ false → event book.plan w (Post i) ≡ None
@@ -118,7 +118,7 @@ module _ (book : ManagerOf) (drawn : ℕ) (xs : List InstanceOf) (is : IsWorld b
 
 -- ---- once it is posted
 
-module _ (book : ManagerOf) (drawn : ℕ) (xs : List InstanceOf) (is : IsWorld book drawn xs) (i : ℕ) (x : InstanceOf) (at : slice_get xs i ≡ Some x) (over : is_over x.plan x.going ≡ true) (book' : ManagerOf) (posted : IfSome (entry_of_going x.plan x.going) (λ (e : Entry). book' ≡ with_entry book e)) (y : InstanceOf) (left : y ≡ record x { going = None }) where
+module _ (stand : WorldsStand) (stay : TablesStay) (book : ManagerOf) (drawn : ℕ) (xs : List InstanceOf) (is : IsWorld book drawn xs) (i : ℕ) (x : InstanceOf) (at : slice_get xs i ≡ Some x) (over : is_over x.plan x.going ≡ true) (book' : ManagerOf) (posted : IfSome (entry_of_going x.plan x.going) (λ (e : Entry). book' ≡ with_entry book e)) (y : InstanceOf) (left : y ≡ record x { going = None }) where
   -- the run, with its flight
   abbrev one : IsDone book drawn xs is i x at
   one = done book drawn xs is i x at over
@@ -147,15 +147,20 @@ module _ (book : ManagerOf) (drawn : ℕ) (xs : List InstanceOf) (is : IsWorld b
   }
 
   -- the world after it
+  abbrev after : World
+  after = post_with book.plan (world_in book drawn xs) i new
+
+  -- the post leads to it
+  happens : event book.plan (world_in book drawn xs) (Post i) ≡ Some after
+  happens = ap (event_at book.plan (world_in book drawn xs) (Post i)) one.aloft_is.there ∙ if_enabled (has_ended book.plan one.aloft_is.flight) after one.ended
+
+  -- and it stands
   leaves : Leaves book drawn xs (Post i) (with_entry book new) next (slice_set xs i y)
   leaves = record {
-    happens =
-        ap (event_at book.plan (world_in book drawn xs) (Post i)) one.aloft_is.there
-        ∙ if_enabled (has_ended book.plan one.aloft_is.flight) (post_with book.plan (world_in book drawn xs) i new) one.ended
-        ∙ ap Some (sym (put book drawn xs is (new ∷ book.past) i y next None in_flight));
+    happens = happens ∙ ap Some (sym (put book drawn xs is (new ∷ book.past) i y next None in_flight));
     stands = put_stands book drawn xs is (new ∷ book.past) i y next None in_flight
-        (λ j g goes. grown_goes book.plan (versions_in book) (versions_in (with_entry book new)) j g (tables_stay book.plan book.past new) goes)
-        is_new (post_stands book.plan (world_in book drawn xs) i one.aloft_is.flight is.stands one.aloft_is.there one.ended);
+        (λ j g goes. grown_goes book.plan (versions_in book) (versions_in (with_entry book new)) j g (stay book.plan book.past new) goes)
+        is_new (stands_after stand book.plan (world_in book drawn xs) after (Post i) is.stands happens);
   }
 
   -- with the draws that code keeps

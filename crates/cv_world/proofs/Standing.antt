@@ -1,12 +1,14 @@
 -- A world that stands: an instance of it with its flight, and another instance put in its place.
 use Rattle.std.proofs.Common.{◌≡◌, ◌≤◌, ℕ, Bool, true, false, List, length, Option, Some, None, refl, sym, ap, ◌∙◌, subst, ⊎_elim}
-use Rattle.std.specs.Prelude.{IfSome, slice_get, slice_set}
+use Rattle.std.specs.Prelude.{IfSome, slice_get, slice_set, unwrap_or}
 use Rattle.std.proofs.lemmas.Option.{IfSome_then}
 use Rattle.cv_base.specs.declared.entries.Entry.{Entry}
+use Rattle.cv_base.specs.PlanOf.{PlanOf}
 use Rattle.cv_exec.specs.ArenaOf.{Going}
 use Rattle.cv_histories.specs.Versions.{ledger}
 use Rattle.cv_histories.specs.Flight.{Flight}
 use Rattle.cv_histories.specs.World.{Event, Begin, Enter, Turn, Post, World, event, event_at, instance_of, with_flight}
+use Rattle.cv_laws.specs.Statements.{WorldsStand}
 use Rattle.cv_laws.specs.WorldStands.{Has, IsFlying, WorldStands}
 use Rattle.cv_manager.specs.ManagerOf.{ManagerOf}
 use Rattle.cv_runs.specs.PatchedRun.{Table}
@@ -28,6 +30,10 @@ versions_in book = (ledger book.plan book.past).versions
 pub record Leaves (book : ManagerOf) (drawn : ℕ) (xs : List InstanceOf) (e : Event) (book' : ManagerOf) (drawn' : ℕ) (xs' : List InstanceOf) : Type 0 where
   pub happens : event book.plan (world_in book drawn xs) e ≡ Some (world_in book' drawn' xs')
   pub stands : IsWorld book' drawn' xs'
+
+-- the world after an event that happens stands too
+pub stands_after : WorldsStand → (plan : PlanOf) (w after : World) (e : Event) → WorldStands plan w → event plan w e ≡ Some after → WorldStands plan after
+stands_after stand plan w after e stands happens = subst (λ (o : Option World). WorldStands plan (unwrap_or o w)) happens ((stand plan).1 w e stands)
 
 -- what comes of a test that holds, and of one that fails
 pub if_enabled : (b : Bool) (w : World) → b ≡ true → ◌≡◌ {A = Option World} (elim b [ true ↦ Some w | false ↦ None ]) (Some w)

@@ -5,8 +5,8 @@ use Rattle.std.proofs.lemmas.Option.{none-some, same_Some}
 use Rattle.cv_base.specs.PlanOf.{PlanOf, IsPlan}
 use Rattle.cv_histories.specs.Flight.{Flight}
 use Rattle.cv_histories.specs.World.{start_world}
+use Rattle.cv_laws.specs.Statements.{WorldsStand}
 use Rattle.cv_laws.specs.WorldStands.{WorldStands}
-use Rattle.cv_laws.proofs.Worlds.{start_stands}
 use Rattle.cv_manager.specs.ManagerOf.{ManagerOf, empty_manager}
 use Rattle.cv_world.specs.InstanceOf.{InstanceOf}
 use Rattle.cv_world.specs.Stands.{IsInstance, IsWorld}
@@ -37,11 +37,11 @@ module _ (plan : PlanOf) (n : ℕ) (book : ManagerOf) (book_is : book ≡ empty_
   start_is = ap (λ (m : ManagerOf). world_in m 0 xs) book_is ∙ ap (λ (ys : List InstanceOf). world_in (empty_manager plan) 0 ys) xs_are ∙ started
 
   -- and it stands
-  pub start_is_world : IsPlan plan → n ≤ plan.workers → IsWorld book 0 xs
-  start_is_world is few =
+  pub start_is_world : WorldsStand → IsPlan plan → n ≤ plan.workers → IsWorld book 0 xs
+  start_is_world stand is few =
       let stands : IsWorld (empty_manager plan) 0 (replicate n (idle plan)) = record {
         plan_is = is;
         each = λ i x at. subst (λ (y : InstanceOf). IsInstance plan (versions_in (empty_manager plan)) i y) (idle_at plan n i x at) (record { plan_is = refl; run = tt });
-        stands = subst (WorldStands plan) (sym started) (start_stands plan n few);
+        stands = subst (WorldStands plan) (sym started) ((stand plan).0 n few);
       } in
       subst (λ (m : ManagerOf). IsWorld m 0 xs) (sym book_is) (subst (λ (ys : List InstanceOf). IsWorld (empty_manager plan) 0 ys) (sym xs_are) stands)

@@ -4,15 +4,15 @@ use Rattle.std.specs.Prelude.{IfSome, option_map, slice_get, slice_set}
 use Rattle.cv_base.specs.PlanOf.{PlanOf}
 use Rattle.cv_exec.specs.ArenaOf.{Going, one_more}
 use Rattle.cv_histories.specs.Flight.{may_turn, turned}
-use Rattle.cv_histories.specs.World.{Turn, event, event_at, with_flight}
-use Rattle.cv_laws.proofs.Goings.{turn_stands}
+use Rattle.cv_histories.specs.World.{Turn, World, event, event_at, with_flight}
+use Rattle.cv_laws.specs.Statements.{WorldsStand}
 use Rattle.cv_manager.specs.ManagerOf.{ManagerOf}
 use Rattle.cv_exec.specs.ArenaOf.{flight_in}
 use Rattle.cv_world.specs.InstanceOf.{InstanceOf, may_turn_in}
 use Rattle.cv_world.specs.Stands.{IsGoing, IsInstance, IsWorld}
 use Rattle.cv_world.proofs.Goings.{turn_same, turned_goes}
 use Rattle.cv_world.proofs.Instances.{flight_at}
-use Rattle.cv_world.proofs.Standing.{IsAloft, Leaves, aloft, if_disabled, if_enabled, put, put_stands, versions_in, world_in}
+use Rattle.cv_world.proofs.Standing.{IsAloft, Leaves, aloft, if_disabled, if_enabled, put, put_stands, stands_after, versions_in, world_in}
 
 module _ (book : ManagerOf) (drawn : ℕ) (xs : List InstanceOf) (is : IsWorld book drawn xs) (i : ℕ) (x : InstanceOf) (at : slice_get xs i ≡ Some x) where
   -- the plan of the instance is the book's
@@ -26,9 +26,9 @@ module _ (book : ManagerOf) (drawn : ℕ) (xs : List InstanceOf) (is : IsWorld b
       ∙ ap (λ (p : PlanOf). may_turn_in p (Some g)) (sym plan_is) ∙ ap (λ (o : Option Going). may_turn_in x.plan o) (sym has)
 
   -- its run takes a turn where it may, by what the instance has
-  leaves_by : (o : Option Going) → x.going ≡ o → may_turn_in x.plan x.going ≡ true → (y : InstanceOf) → y ≡ record x { going = one_more x.going } → flight_in y.plan y.going ≡ option_map (turned x.plan) (flight_in x.plan x.going) → Leaves book drawn xs (Turn i) book drawn (slice_set xs i y)
-  leaves_by None has may y turned' flies = let no : may_turn_in x.plan None ≡ true = subst (λ (o : Option Going). may_turn_in x.plan o ≡ true) has may in absurd cc
-  leaves_by (Some g) has may y turned' flies =
+  leaves_by : WorldsStand → (o : Option Going) → x.going ≡ o → may_turn_in x.plan x.going ≡ true → (y : InstanceOf) → y ≡ record x { going = one_more x.going } → flight_in y.plan y.going ≡ option_map (turned x.plan) (flight_in x.plan x.going) → Leaves book drawn xs (Turn i) book drawn (slice_set xs i y)
+  leaves_by stand None has may y turned' flies = let no : may_turn_in x.plan None ≡ true = subst (λ (o : Option Going). may_turn_in x.plan o ≡ true) has may in absurd cc
+  leaves_by stand (Some g) has may y turned' flies =
       let a = aloft book drawn xs is i x g at has in
       let enabled : may_turn book.plan a.flight ≡ true = same g has a ∙ may in
       let going : y.going ≡ one_more (Some g) = ap (λ (z : InstanceOf). z.going) turned' ∙ ap one_more has in
@@ -41,17 +41,17 @@ module _ (book : ManagerOf) (drawn : ℕ) (xs : List InstanceOf) (is : IsWorld b
       let new : IsInstance book.plan (versions_in book) i y = record {
         plan_is = ap (λ (z : InstanceOf). z.plan) turned' ∙ plan_is;
         run = subst (λ (o : Option Going). IfSome o (IsGoing book.plan (versions_in book) i)) (sym going) (turned_goes book.plan (versions_in book) i g a.goes);
-      } in record {
-        happens =
-            ap (event_at book.plan (world_in book drawn xs) (Turn i)) a.there
-            ∙ if_enabled (may_turn book.plan a.flight) (with_flight (world_in book drawn xs) i (Some (turned book.plan a.flight))) enabled
-            ∙ ap Some (sym (put book drawn xs is book.past i y drawn (Some (turned book.plan a.flight)) in_flight));
-        stands = put_stands book drawn xs is book.past i y drawn (Some (turned book.plan a.flight)) in_flight (λ j h goes. goes) new (turn_stands book.plan (world_in book drawn xs) i a.flight is.stands a.there enabled);
+      } in
+      let after : World = with_flight (world_in book drawn xs) i (Some (turned book.plan a.flight)) in
+      let happens : event book.plan (world_in book drawn xs) (Turn i) ≡ Some after =
+      ap (event_at book.plan (world_in book drawn xs) (Turn i)) a.there ∙ if_enabled (may_turn book.plan a.flight) after enabled in record {
+        happens = happens ∙ ap Some (sym (put book drawn xs is book.past i y drawn (Some (turned book.plan a.flight)) in_flight));
+        stands = put_stands book drawn xs is book.past i y drawn (Some (turned book.plan a.flight)) in_flight (λ j h goes. goes) new (stands_after stand book.plan (world_in book drawn xs) after (Turn i) is.stands happens);
       }
 
   -- whatever it has
-  pub turn_leaves : may_turn_in x.plan x.going ≡ true → (y : InstanceOf) → y ≡ record x { going = one_more x.going } → flight_in y.plan y.going ≡ option_map (turned x.plan) (flight_in x.plan x.going) → Leaves book drawn xs (Turn i) book drawn (slice_set xs i y)
-  turn_leaves = leaves_by x.going refl
+  pub turn_leaves : WorldsStand → may_turn_in x.plan x.going ≡ true → (y : InstanceOf) → y ≡ record x { going = one_more x.going } → flight_in y.plan y.going ≡ option_map (turned x.plan) (flight_in x.plan x.going) → Leaves book drawn xs (Turn i) book drawn (slice_set xs i y)
+  turn_leaves stand = leaves_by stand x.going refl
 
   -- and none where it may not, by what the instance has
   disabled_by : (o : Option Going) → x.going ≡ o → may_turn_in x.plan x.going ≡ false → event book.plan (world_in book drawn xs) (Turn i) ≡ None

@@ -1,5 +1,5 @@
 -- What an instance stands for: its plan, and the run that it has, which may have its record already.
-use Rattle.std.specs.Prelude.{◌≡◌, Bool, true, false, Option, Some, None, is_some, not, ◌&&◌, IfSome}
+use Rattle.std.specs.Prelude.{◌≡◌, Bool, true, Option, Some, None, is_some, not, ◌&&◌, IfSome}
 use Rattle.cv_base.specs.PlanOf.{PlanOf}
 use Rattle.cv_exec.specs.ArenaOf.{ArenaOf, Going, entry_of_going, is_over, wants}
 use Rattle.cv_exec.specs.RecordOf.{RecordOf}

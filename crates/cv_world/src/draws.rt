@@ -5,6 +5,7 @@ ghost use Rattle.cv_histories.specs.World.{current_round, is_posted, numbers_of}
 
 use cv_base::{Entry, Plan};
 use cv_job::runs_in;
+use cv_laws::runs_are_counted;
 
 /// The first round of a plan with a run that is not posted, after a history.
 pub(crate) fn current_round(plan: &Plan, history: &[Entry]) -> Option<u32>
@@ -65,6 +66,7 @@ fn numbers_of(plan: &Plan, round: u32) -> Numbers
     ensures within { result.first + result.count ≤ length (runs plan.now) }
     ensures few { length (runs plan.now) ≤ 1024 }
 {
+    runs_are_counted();
     let rounds = plan.rounds.as_slice();
     let first = runs_in(&rounds[..round as usize]);
     let count = rounds[round as usize].inputs.as_slice().len() as u32;

@@ -9,6 +9,10 @@ use crate::draws::{current_round, run_of};
 use crate::instance::Instance;
 use cv_base::{NoMemory, PatchTable, Plan};
 use cv_core::Book;
+use cv_laws::{
+    current_is_of_plan, ended_may_follow, newest_is_last, numbers_are_of_round, runs_are_counted,
+    some_version, tables_stay, worlds_stand,
+};
 use std::alloc::Global;
 use std::marker::Model;
 use std::sync::Arc;
@@ -62,6 +66,7 @@ impl World {
         ensures plan { IfOk result (λ w. w.plan ≡ plan) }
         ensures start { IfOk result (λ w. world_of w ≡ start_world instances) }
     {
+        worlds_stand();
         let instances = idle(alloc, &plan, instances)?;
         let book = Book::make(alloc, plan)?;
         Ok(World {
@@ -104,6 +109,9 @@ impl World {
         ensures plan { self.new.plan ≡ self.old.plan }
         ensures err { OnErr result (self.new ≡ self.old) }
     {
+        worlds_stand();
+        numbers_are_of_round();
+        runs_are_counted();
         if i as usize >= self.instances.len() || self.instances[i as usize].has_run() {
             return Ok(Did::Disabled);
         }
@@ -119,6 +127,7 @@ impl World {
     fn next_run(&self) -> Option<u32>
         ensures { result ≡ next_draw self.now.plan (world_of self.now) (current_round self.now.plan self.now.history) }
     {
+        current_is_of_plan();
         let round = round_of(&self.book)?;
         run_of(self.book.plan(), round, self.drawn)
     }
@@ -132,6 +141,9 @@ impl World {
         ensures plan { self.new.plan ≡ self.old.plan }
         ensures err { OnErr result (self.new ≡ self.old) }
     {
+        worlds_stand();
+        some_version();
+        newest_is_last();
         if i as usize >= self.instances.len() || !self.instances[i as usize].wants_entry() {
             return Ok(Did::Disabled);
         }
@@ -148,6 +160,7 @@ impl World {
         ensures plan { self.new.plan ≡ self.old.plan }
         ensures err { OnErr result (self.new ≡ self.old) }
     {
+        worlds_stand();
         if i as usize >= self.instances.len() || !self.instances[i as usize].may_turn() {
             return Ok(Did::Disabled);
         }
@@ -163,6 +176,9 @@ impl World {
         ensures plan { self.new.plan ≡ self.old.plan }
         ensures err { OnErr result (self.new ≡ self.old) }
     {
+        worlds_stand();
+        ended_may_follow();
+        tables_stay();
         if i as usize >= self.instances.len() || !self.instances[i as usize].ended() {
             return Ok(Did::Disabled);
         }

@@ -1,4 +1,4 @@
-use Rattle.cv_laws.proofs.Serial.{serial_is_legal}
+use Rattle.cv_laws.proofs.SerialHistory.{serial_is_legal}
 use Rattle.cv_laws.proofs.serial_is_legal.Goals as goal
 
 -- src/lib.rt

@@ -16,7 +16,7 @@ loop-run-preserved c = λ number r below at earlier.
 pub returns : goal.returns
 returns c = (
   λ yes number r at earlier.
-      let lower = earlier_is_below c.args.plan.now c.args.entry.now.run number r c.requires at earlier in
+      let lower = earlier_is_below c.earlier_is_below.ensures c.args.plan.now c.args.entry.now.run number r c.requires at earlier in
       let below : number < c.loop-run.run = omega arith in
       let in_round : r.round < c.round_of-round.result = omega arith in
       c.loop-run.invariant number r below at in_round,

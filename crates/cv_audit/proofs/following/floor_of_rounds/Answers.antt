@@ -28,6 +28,6 @@ loop-k-preserved c =
           (is_before (round_of plan o) (round_of plan e) (omega arith))
       | else-round_of-round w ↦
           let above = w.if-round_of-round.false in
-          w.floor-is ∙ left plan test c.args.history.now c.loop-k.floor c.loop-k.k o c.loop-k-test.true at
+          w.floor-is ∙ left c.floor_stays.ensures plan test c.args.history.now c.loop-k.floor c.loop-k.k o c.loop-k-test.true at
           (is_not_before (round_of plan o) (round_of plan e) (omega arith)) c.loop-k.invariant
     ]

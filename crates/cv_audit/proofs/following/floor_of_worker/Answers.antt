@@ -21,6 +21,6 @@ loop-k-preserved c =
           w.floor-is ∙ taken c.args.plan.now test c.args.history.now c.args.floors.now c.loop-k.k o c.requires c.loop-k-test.true at
           (eq-eqb o.worker c.args.entry.now.worker (ap (λ (o : Entry). o.worker) at ∙ w.if-history-k.true))
       | else-history-k w ↦
-          w.floor-is ∙ left c.args.plan.now test c.args.history.now c.loop-k.floor c.loop-k.k o c.loop-k-test.true at
+          w.floor-is ∙ left c.floor_stays.ensures c.args.plan.now test c.args.history.now c.loop-k.floor c.loop-k.k o c.loop-k-test.true at
           (differ o.worker c.args.entry.now.worker (λ same. w.if-history-k.false (ap (λ (o : Entry). o.worker) (sym at) ∙ same))) c.loop-k.invariant
     ]

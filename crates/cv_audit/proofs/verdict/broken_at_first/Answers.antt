@@ -1,4 +1,4 @@
-use Rattle.std.proofs.Common.{◌≡◌, ◌∙◌, None, List, ap, reverse, subst}
+use Rattle.std.proofs.Common.{◌∙◌, List, ap, reverse, subst}
 use Rattle.std.proofs.lemmas.List.{reverse-reverse}
 use Rattle.std.specs.Prelude.{IfSome}
 use Rattle.cv_base.specs.declared.entries.Entry.{Entry}

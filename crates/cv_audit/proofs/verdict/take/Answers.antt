@@ -1,4 +1,4 @@
-use Rattle.std.proofs.Common.{Option, subst, refl}
+use Rattle.std.proofs.Common.{Option, subst}
 use Rattle.std.specs.Prelude.{IfSome}
 use Rattle.cv_exec.specs.RecordOf.{RecordOf}
 use Rattle.cv_manager.specs.ManagerOf.{ledger_in}

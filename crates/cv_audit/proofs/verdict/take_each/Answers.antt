@@ -1,4 +1,4 @@
-use Rattle.std.proofs.Common.{◌≡◌, ◌∙◌, ℕ, Option, length, sym, ap, subst}
+use Rattle.std.proofs.Common.{◌≡◌, ◌∙◌, ℕ, Option, length, ap, subst}
 use Rattle.std.specs.Prelude.{IfSome}
 use Rattle.cv_histories.specs.Legal.{IsLegal}
 use Rattle.cv_manager.specs.ManagerOf.{ManagerOf}

@@ -43,7 +43,7 @@ loop-pass-preserved g c =
           let one = all_mid (IsDone s) at.yielded x rest (subst (λ l. AllByRecursion (IsDone s) l) (sym middle) done.each) in
           let here = subst (λ v. IsDone s v) (sym c.pass.view_is) one in
           subst (λ v. HasTaken s c.args.master.now.me.0 (at.yielded ++ v ∷ []) c.end.new.master.me.0) c.pass.view_is
-          (one_taken s c.args.master.now.me.0 at.yielded at.master.me.0 c.pass.inside.seat.me.0 c.end.new.master.me.0 (at.invariant.5 s done) here c.pass.inside.worker c.pass.invariant.2.role
+          (one_taken c.renewed_stays.ensures s c.args.master.now.me.0 at.yielded at.master.me.0 c.pass.inside.seat.me.0 c.end.new.master.me.0 (at.invariant.5 s done) here c.pass.inside.worker c.pass.invariant.2.role
           c.end.ensures.told c.end.ensures.ended c.end.ensures.known),
     )
 

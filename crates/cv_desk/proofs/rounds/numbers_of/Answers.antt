@@ -18,6 +18,6 @@ returns-clause-numbers c =
 
 pub returns-clause-few : goal.returns-clause-few
 returns-clause-few c =
-    let few : length (runs c.args.plan.now) ≤ 1024 = few_runs c.args.plan.now c.plan.inside.rounds (ap (λ (p : PlanOf). p.rounds) c.plan.view_is) c.plan.invariant.few_runs in
+    let few : length (runs c.args.plan.now) ≤ 1024 = few_runs c.runs_are_counted.ensures c.args.plan.now c.plan.inside.rounds (ap (λ (p : PlanOf). p.rounds) c.plan.view_is) c.plan.invariant.few_runs in
     rw (c.runs_in-first.ensures, inputs c)
-    (let within = numbers_within c.args.plan.now c.as_slice-rounds.result.now c.args.round c.index-rounds-round.result (same c) c.requires c.index-rounds-round.is in omega arith)
+    (let within = numbers_within c.runs_are_counted.ensures c.args.plan.now c.as_slice-rounds.result.now c.args.round c.index-rounds-round.result (same c) c.requires c.index-rounds-round.is in omega arith)

@@ -10,7 +10,7 @@ compare_exchange_with-requires g c =
     let run = c.requires.holding.run in (
       c.requires.board.1,
       (let two = c.requires.board.0 in omega arith),
-      announces (g.C.Opens.opening c.args.board.now.shared.key) c.args.board.now.shared.table_id.slots c.args.master.now.id c.args.master.now.me.0 c.args.master.now.me.1 run.0 c.args.table.now c.args.count c.requires.holding.role run.1 run.2 c.requires.count c.requires.room,
+      announces c.announce_keeps.ensures (g.C.Opens.opening c.args.board.now.shared.key) c.args.board.now.shared.table_id.slots c.args.master.now.id c.args.master.now.me.0 c.args.master.now.me.1 run.0 c.args.table.now c.args.count c.requires.holding.role run.1 run.2 c.requires.count c.requires.room,
     )
 
 pub returns-clause-announced : goal.returns-clause-announced

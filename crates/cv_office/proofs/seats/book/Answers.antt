@@ -8,5 +8,5 @@ load-requires g c =
     let run = c.requires.holding.run in (
       c.requires.board.1,
       (let two = c.requires.board.0 in omega arith),
-      books (g.C.Opens.opening c.args.board.now.shared.key) c.args.board.now.shared.table_id.slots c.args.master.now.id c.args.master.now.me.0 c.args.master.now.me.1 run.0 c.requires.holding.role run.1 run.2,
+      books c.book_keeps.ensures (g.C.Opens.opening c.args.board.now.shared.key) c.args.board.now.shared.table_id.slots c.args.master.now.id c.args.master.now.me.0 c.args.master.now.me.1 run.0 c.requires.holding.role run.1 run.2,
     )

@@ -2,7 +2,7 @@ use Rattle.std.proofs.Common.{◌≡◌, ◌∙◌, ap, subst, arith}
 use Rattle.cv_office.proofs.Moves.{ends, renews}
 use Rattle.cv_office.proofs.seats.end.Goals as goal
 use Rattle.cv_office.specs.Told.{IsToldBoth}
-use Rattle.cv_rule.specs.Steps.{joined, worker_of}
+use Rattle.cv_rule.specs.Steps.{worker_of}
 use Rattle.cv_rule.specs.declared.view.Role.TheVariants.{Master}
 
 -- src/seats.rt
@@ -12,7 +12,7 @@ join_seat-requires g c = (
   c.requires.board.1,
   c.requires.pass.1,
   (let two = c.requires.board.0 in omega arith),
-  ends (g.C.Opens.opening c.args.board.now.shared.key) c.args.master.now.id c.args.pass.id (worker_of c.args.pass.me.0.role) c.args.master.now.me.0 c.args.pass.me.0 c.requires.master c.requires.pass.0.role c.requires.done.0 c.requires.done.1,
+  ends c.end_keeps.ensures (g.C.Opens.opening c.args.board.now.shared.key) c.args.master.now.id c.args.pass.id (worker_of c.args.pass.me.0.role) c.args.master.now.me.0 c.args.pass.me.0 c.requires.master c.requires.pass.0.role c.requires.done.0 c.requires.done.1,
 )
 
 pub load-requires : goal.load-requires
@@ -22,7 +22,7 @@ load-requires g c =
     let role : v.role ≡ Master = ap (λ m. m.0.role) j.2 ∙ c.requires.master in (
       j.0 ∙ c.requires.board.2,
       (let two = c.requires.board.0 in omega arith),
-      renews (g.C.Opens.opening c.args.board.now.shared.key) c.args.board.now.shared.table_id.slots c.join_seat.new.seat.id v c.join_seat.new.seat.me.1 (λ e. absurd (cc (role, e))),
+      renews c.renew_keeps.ensures c.row_may_be_posted.ensures (g.C.Opens.opening c.args.board.now.shared.key) c.args.board.now.shared.table_id.slots c.join_seat.new.seat.id v c.join_seat.new.seat.me.1 (λ e. absurd (cc (role, e))),
     )
 
 pub returns-clause-told : goal.returns-clause-told

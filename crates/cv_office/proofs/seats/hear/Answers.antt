@@ -11,7 +11,7 @@ pub split_seat-note-requires : goal.split_seat-note-requires
 split_seat-note-requires g c = (
   c.requires.board.1,
   (let two = c.requires.board.0 in omega arith),
-  notes (g.C.Opens.opening c.args.board.now.shared.key) c.args.pass.now.id c.args.pass.now.me.0 (λ e. let role = c.requires.pass.role in absurd (cc (role, e))),
+  notes c.note_keeps.ensures (g.C.Opens.opening c.args.board.now.shared.key) c.args.pass.now.id c.args.pass.now.me.0 (λ e. let role = c.requires.pass.role in absurd (cc (role, e))),
 )
 
 pub join_seat-requires : goal.join_seat-requires
@@ -21,7 +21,7 @@ join_seat-requires g c =
       s.3 ∙ c.requires.board.1,
       ap (λ m. m.1) s.4,
       (let two = c.requires.board.0 in omega arith),
-      takes (g.C.Opens.opening c.args.board.now.shared.key) c.args.master.now.id c.split_seat-note.result.id c.args.master.now.me.0 c.split_seat-note.result.me.0 c.requires.master.role (ap (λ m. m.0.role) s.4),
+      takes c.take_keeps.ensures (g.C.Opens.opening c.args.board.now.shared.key) c.args.master.now.id c.split_seat-note.result.id c.args.master.now.me.0 c.split_seat-note.result.me.0 c.requires.master.role (ap (λ m. m.0.role) s.4),
     )
 
 pub load-requires : goal.load-requires
@@ -31,7 +31,7 @@ load-requires g c =
     let role : v.role ≡ Master = ap (λ m. m.0.role) j.2 ∙ c.requires.master.role in (
       j.0 ∙ c.requires.board.2,
       (let two = c.requires.board.0 in omega arith),
-      renews (g.C.Opens.opening c.args.board.now.shared.key) c.args.board.now.shared.table_id.slots c.join_seat.new.seat.id v c.join_seat.new.seat.me.1 (λ e. absurd (cc (role, e))),
+      renews c.renew_keeps.ensures c.row_may_be_posted.ensures (g.C.Opens.opening c.args.board.now.shared.key) c.args.board.now.shared.table_id.slots c.join_seat.new.seat.id v c.join_seat.new.seat.me.1 (λ e. absurd (cc (role, e))),
     )
 
 pub returns-clause-told : goal.returns-clause-told
@@ -44,7 +44,7 @@ pub returns-clause-empty : goal.returns-clause-empty
 returns-clause-empty g c =
     let told = c.load.ensures.2 in
     let e = ap (λ m. m.0) c.join_seat.ensures.2 in
-    subst IsMaster (sym (told.view ∙ ap (λ v. renewed v) e)) (renewed_master c.args.master.now.me.0 c.split_seat-note.result.me.0 c.requires.master (ap (λ m. m.0.hand) c.split_seat-note.ensures.4))
+    subst IsMaster (sym (told.view ∙ ap (λ v. renewed v) e)) (renewed_master c.renewed_stays.ensures c.args.master.now.me.0 c.split_seat-note.result.me.0 c.requires.master (ap (λ m. m.0.hand) c.split_seat-note.ensures.4))
 
 pub returns-clause-known : goal.returns-clause-known
 returns-clause-known g c =

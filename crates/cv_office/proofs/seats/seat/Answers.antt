@@ -8,7 +8,7 @@ pub split_seat-requires : goal.split_seat-requires
 split_seat-requires g c = (
   c.requires.board.1,
   (let two = c.requires.board.0 in omega arith),
-  seats (g.C.Opens.opening c.args.board.now.shared.key) c.args.master.now.id c.args.master.now.me.0 c.requires.master.role c.requires.master.hand c.requires.absent,
+  seats c.seat_keeps.ensures (g.C.Opens.opening c.args.board.now.shared.key) c.args.master.now.id c.args.master.now.me.0 c.requires.master.role c.requires.master.hand c.requires.absent,
 )
 
 pub returns-clause-pass : goal.returns-clause-pass

@@ -12,7 +12,7 @@ split_seat-note-requires g c =
     let row = c.requires.row in (
       c.requires.board.1,
       (let two = c.requires.board.0 in omega arith),
-      sends (g.C.Opens.opening c.args.board.now.shared.key) c.args.pass.now.id (worker_of c.args.pass.now.me.0.role) c.args.pass.now.me.0 row.0 c.requires.pass.role row.1 row.2,
+      sends c.send_keeps.ensures (g.C.Opens.opening c.args.board.now.shared.key) c.args.pass.now.id (worker_of c.args.pass.now.me.0.role) c.args.pass.now.me.0 row.0 c.requires.pass.role row.1 row.2,
     )
 
 pub join_seat-requires : goal.join_seat-requires
@@ -22,7 +22,7 @@ join_seat-requires g c =
       s.3 ∙ c.requires.board.1,
       ap (λ m. m.1) s.4,
       (let two = c.requires.board.0 in omega arith),
-      takes (g.C.Opens.opening c.args.board.now.shared.key) c.args.master.now.id c.split_seat-note.result.id c.args.master.now.me.0 c.split_seat-note.result.me.0 c.requires.master.role (ap (λ m. m.0.role) s.4),
+      takes c.take_keeps.ensures (g.C.Opens.opening c.args.board.now.shared.key) c.args.master.now.id c.split_seat-note.result.id c.args.master.now.me.0 c.split_seat-note.result.me.0 c.requires.master.role (ap (λ m. m.0.role) s.4),
     )
 
 pub load-requires : goal.load-requires
@@ -32,7 +32,7 @@ load-requires g c =
     let role : v.role ≡ Master = ap (λ m. m.0.role) j.2 ∙ c.requires.master.role in (
       j.0 ∙ c.requires.board.2,
       (let two = c.requires.board.0 in omega arith),
-      renews (g.C.Opens.opening c.args.board.now.shared.key) c.args.board.now.shared.table_id.slots c.join_seat.new.seat.id v c.join_seat.new.seat.me.1 (λ e. absurd (cc (role, e))),
+      renews c.renew_keeps.ensures c.row_may_be_posted.ensures (g.C.Opens.opening c.args.board.now.shared.key) c.args.board.now.shared.table_id.slots c.join_seat.new.seat.id v c.join_seat.new.seat.me.1 (λ e. absurd (cc (role, e))),
     )
 
 pub returns-clause-told : goal.returns-clause-told
@@ -46,7 +46,7 @@ returns-clause-holding g c =
     let told = c.load.ensures.2 in
     let e = ap (λ m. m.0) c.join_seat.ensures.2 ∙ ap (λ m. joined c.args.master.now.me.0 m.0) c.split_seat-note.ensures.4 in
     subst (λ v. IsHolding c.args.pass.now.me.0.hand v) (sym (told.view ∙ ap (λ v. renewed v) e))
-    (holding c.args.master.now.me.0 c.args.pass.now.me.0 told.opening c.requires.master c.requires.row (subst (λ v. IsRenewal told.opening v (renewed v)) e told.renewal))
+    (holding c.renewed_stays.ensures c.args.master.now.me.0 c.args.pass.now.me.0 told.opening c.requires.master c.requires.row (subst (λ v. IsRenewal told.opening v (renewed v)) e told.renewal))
 
 pub returns-clause-may : goal.returns-clause-may
 returns-clause-may g c =

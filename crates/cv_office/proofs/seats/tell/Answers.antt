@@ -10,7 +10,7 @@ pub split_seat-note-requires : goal.split_seat-note-requires
 split_seat-note-requires g c = (
   c.requires.board.2,
   (let two = c.requires.board.0 in omega arith),
-  notes (g.C.Opens.opening c.args.board.now.shared.key) c.args.master.now.id c.args.master.now.me.0 (λ e. let role = c.requires.master.role in absurd (cc (role, e))),
+  notes c.note_keeps.ensures (g.C.Opens.opening c.args.board.now.shared.key) c.args.master.now.id c.args.master.now.me.0 (λ e. let role = c.requires.master.role in absurd (cc (role, e))),
 )
 
 pub join_seat-requires : goal.join_seat-requires
@@ -20,7 +20,7 @@ join_seat-requires g c =
       s.3 ∙ c.requires.board.2,
       ap (λ m. m.1) s.4,
       (let two = c.requires.board.0 in omega arith),
-      news (g.C.Opens.opening c.args.board.now.shared.key) c.args.pass.now.id c.split_seat-note.result.id (worker_of c.args.pass.now.me.0.role) c.args.pass.now.me.0 c.split_seat-note.result.me.0 c.requires.pass.role (ap (λ m. m.0.role) s.4) (ap (λ m. m.0.hand) s.4),
+      news c.news_keeps.ensures (g.C.Opens.opening c.args.board.now.shared.key) c.args.pass.now.id c.split_seat-note.result.id (worker_of c.args.pass.now.me.0.role) c.args.pass.now.me.0 c.split_seat-note.result.me.0 c.requires.pass.role (ap (λ m. m.0.role) s.4) (ap (λ m. m.0.hand) s.4),
     )
 
 pub load-requires : goal.load-requires
@@ -30,7 +30,7 @@ load-requires g c =
     let role : v.role ≡ Pass (worker_of c.args.pass.now.me.0.role) = ap (λ m. m.0.role) j.2 ∙ c.requires.pass.role in (
       j.0 ∙ c.requires.board.1,
       (let two = c.requires.board.0 in omega arith),
-      renews (g.C.Opens.opening c.args.board.now.shared.key) c.args.board.now.shared.table_id.slots c.join_seat.new.seat.id v c.join_seat.new.seat.me.1 (λ e. absurd (cc (role, e))),
+      renews c.renew_keeps.ensures c.row_may_be_posted.ensures (g.C.Opens.opening c.args.board.now.shared.key) c.args.board.now.shared.table_id.slots c.join_seat.new.seat.id v c.join_seat.new.seat.me.1 (λ e. absurd (cc (role, e))),
     )
 
 pub returns-clause-both : goal.returns-clause-both
@@ -43,4 +43,4 @@ pub returns-clause-seated : goal.returns-clause-seated
 returns-clause-seated g c =
     let told = c.load.ensures.2 in
     let e = ap (λ m. m.0) c.join_seat.ensures.2 in
-    subst IsPass (sym (told.view ∙ ap (λ v. renewed v) e)) (renewed_pass c.args.pass.now.me.0 c.split_seat-note.result.me.0 c.requires.pass)
+    subst IsPass (sym (told.view ∙ ap (λ v. renewed v) e)) (renewed_pass c.renewed_stays.ensures c.within_grows.ensures c.args.pass.now.me.0 c.split_seat-note.result.me.0 c.requires.pass)

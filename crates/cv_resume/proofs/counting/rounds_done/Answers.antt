@@ -26,7 +26,7 @@ returns-then-is_begun-clause-part c =
     let least : IsLeast m.plan m.past k = subst (λ (o : Option ℕ). MatchOption o (IsWhole m.plan m.past) (IsLeast m.plan m.past)) c.in-Some.is c.missing.ensures in
     let is : n ≡ round_in (run_at m.plan k) = c.round_of-round.ensures ∙ ap (λ (p : PlanOf). round_in (run_at p k)) c.plan-plan.ensures in
     let past : reverse c.history-history.result.now ≡ m.past = ap (λ (es : List Entry). reverse es) c.history-history.ensures ∙ reverse-reverse c.manager.result.now.past ∙ ap (λ (b : ManagerOf). b.past) c.manager.ensures.value in
-    least_part m.plan m.past k c.manager.ensures.legal least n is
+    least_part m.plan m.past k c.manager.ensures.legal least c.earlier_is_below.ensures n is
     (subst (λ (es : List Entry). HasEntryOf m.plan n es) past (subst (λ (p : PlanOf). HasEntryOf p n (reverse c.history-history.result.now)) c.plan-plan.ensures (c.is_begun.ensures.some c.if-is_begun.true)))
 
 pub returns-clause-up_to : goal.returns-clause-up_to
@@ -37,7 +37,7 @@ returns-clause-up_to c =
     let least : IsLeast m.plan m.past k = subst (λ (o : Option ℕ). MatchOption o (IsWhole m.plan m.past) (IsLeast m.plan m.past)) c.in-Some.is c.missing.ensures in
     let is : n ≡ round_in (run_at m.plan k) = c.round_of-round.ensures ∙ ap (λ (p : PlanOf). round_in (run_at p k)) c.plan-plan.ensures in
     let past : reverse c.history-history.result.now ≡ m.past = ap (λ (es : List Entry). reverse es) c.history-history.ensures ∙ reverse-reverse c.manager.result.now.past ∙ ap (λ (b : ManagerOf). b.past) c.manager.ensures.value in
-    least_up_to m.plan m.past k c.manager.ensures.legal least n is
+    least_up_to m.plan m.past k c.manager.ensures.legal least c.earlier_is_below.ensures n is
     (subst (λ (es : List Entry). AllByRecursion (λ (o : Entry). round_of m.plan o ≢ n) es) past
     (subst (λ (p : PlanOf). AllByRecursion (λ (o : Entry). round_of p o ≢ n) (reverse c.history-history.result.now)) c.plan-plan.ensures (c.is_begun.ensures.none c.if-is_begun.false)))
 

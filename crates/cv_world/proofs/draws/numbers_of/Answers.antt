@@ -18,7 +18,7 @@ returns-clause-numbers c =
 pub returns-clause-within : goal.returns-clause-within
 returns-clause-within c =
     rw (c.runs_in-first.ensures, inputs c)
-    (numbers_within c.args.plan.now c.as_slice-rounds.result.now c.args.round c.index-rounds-round.result (same c) c.requires c.index-rounds-round.is)
+    (numbers_within c.runs_are_counted.ensures c.args.plan.now c.as_slice-rounds.result.now c.args.round c.index-rounds-round.result (same c) c.requires c.index-rounds-round.is)
 
 pub returns-clause-few : goal.returns-clause-few
-returns-clause-few c = few_runs c.args.plan.now c.plan.inside.rounds (ap (λ (p : PlanOf). p.rounds) c.plan.view_is) c.plan.invariant.few_runs
+returns-clause-few c = few_runs c.runs_are_counted.ensures c.args.plan.now c.plan.inside.rounds (ap (λ (p : PlanOf). p.rounds) c.plan.view_is) c.plan.invariant.few_runs

@@ -18,7 +18,9 @@ post-requires-clause-follows g c =
     let r = c.args.outcome in
     let e = c.entry-honest.ensures in
     let is = sent_is c.self.inside.book c.self.inside.seat.me.0 c.args.pass.now.me.0 c.send.new.master.me.0 c.args.ticket r c.send.result c.self.invariant.2 c.requires.pass.0 c.requires.ticket c.requires.outcome s.may s.told s.heard s.known in
-    follows c.self.inside.book c.self.inside.seat.me.0 c.args.pass.now.me.0 c.args.ticket r c.send.result is c.loaded_may_be_posted.ensures
+    follows c.self.inside.book c.self.inside.seat.me.0 c.args.pass.now.me.0 c.args.ticket r c.send.result is
+    (record { numbers_are = c.numbers_are_of_round.ensures; numbers_rise = c.numbers_rise.ensures; floor_below = c.floor_is_below.ensures; floor_stays = c.floor_stays.ensures })
+    c.loaded_may_be_posted.ensures
     (subst (λ x. IsHonestUnder r.plan r.adopted x) e.value e.honest) (subst (λ x. NeverFalls x.adopted) e.value e.rises)
 
 pub note-requires-clause-versions : goal.note-requires-clause-versions
@@ -27,9 +29,11 @@ note-requires-clause-versions g c =
     let r = c.args.outcome in
     let e = c.entry-honest.ensures in
     let is = sent_is c.self.inside.book c.self.inside.seat.me.0 c.args.pass.now.me.0 c.send.new.master.me.0 c.args.ticket r c.send.result c.self.invariant.2 c.requires.pass.0 c.requires.ticket c.requires.outcome s.may s.told s.heard s.known in
-    let may = follows c.self.inside.book c.self.inside.seat.me.0 c.args.pass.now.me.0 c.args.ticket r c.send.result is c.loaded_may_be_posted.ensures
+    let may = follows c.self.inside.book c.self.inside.seat.me.0 c.args.pass.now.me.0 c.args.ticket r c.send.result is
+    (record { numbers_are = c.numbers_are_of_round.ensures; numbers_rise = c.numbers_rise.ensures; floor_below = c.floor_is_below.ensures; floor_stays = c.floor_stays.ensures })
+    c.loaded_may_be_posted.ensures
     (subst (λ x. IsHonestUnder r.plan r.adopted x) e.value e.honest) (subst (λ x. NeverFalls x.adopted) e.value e.rises) in
-    after_at c.self.inside.book c.post.new.self r.entry c.in-Ok.added c.send.new.master.me.0.known.versions c.limits.ensures.plan c.limits.ensures.legal may
+    after_at c.followed_has_room.ensures c.runs_are_counted.ensures c.self.inside.book c.post.new.self r.entry c.in-Ok.added c.send.new.master.me.0.known.versions c.limits.ensures.plan c.limits.ensures.legal may
     c.in-Ok.ensures.version c.in-Ok.ensures.posted (ap (λ k. k.versions) s.known ∙ c.self.invariant.2.versions)
 
 pub returns-in-Ok-clause-done : goal.returns-in-Ok-clause-done
@@ -71,5 +75,5 @@ returns-in-Err-clause-as_before g c =
     let v = c.send.new.master.me.0 in
     let is = sent_is c.self.inside.book m p v c.args.ticket c.args.outcome c.send.result c.self.invariant.2 c.requires.pass.0 c.requires.ticket c.requires.outcome s.may s.told s.heard s.known in
     let q : c.send.new.pass.me.0 ≡ sending p = ap (λ x. x.0) s.pass.2 in
-    has_back c.self.inside.book m p c.args.ticket c.args.outcome c.send.result is v c.give_back.new.pass.me.0 s.holding.hand_is c.requires.pass.1
+    has_back c.self.inside.book m p c.args.ticket c.args.outcome c.send.result is c.longer_begins.ensures c.longer_begins-2.ensures v c.give_back.new.pass.me.0 s.holding.hand_is c.requires.pass.1
     (c.give_back.ensures.back ∙ ap (λ x. renewed (joined x (note_of v v.hand))) q)

@@ -16,4 +16,4 @@ returns g c = λ s done.
     let alone = c.end_all.ensures.alone s done in
     let same : s ≡ d.setting = one_setting s d.setting (same_Some (opening_of s) (opening_of d.setting) (sym alone.opening ∙ (ap (λ k. k.opening) known ∙ d.opening))) in
     subst (λ x. IsClosed x c.book.inside.book) (sym same)
-    (closed c.book.inside.book c.book.inside.seat.me.0 w d known (subst (λ x. HasRunsOnce (opening_of x) w) same (c.close.ensures (opening_of s) alone)))
+    (closed c.numbers_are_of_round.ensures c.book.inside.book c.book.inside.seat.me.0 w d known (subst (λ x. HasRunsOnce (opening_of x) w) same (c.close.ensures (opening_of s) alone)))

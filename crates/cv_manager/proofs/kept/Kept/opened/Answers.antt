@@ -7,7 +7,6 @@ use Rattle.cv_histories.specs.Cases.{candidates_at}
 use Rattle.cv_histories.specs.Seen.{observed}
 use Rattle.cv_manager.specs.Kept.{seen_as}
 use Rattle.cv_manager.proofs.Sizes.{few_candidates}
-use Rattle.cv_manager.proofs.LearnedKinds.{learned_kinds, learned_points}
 use Rattle.cv_manager.proofs.Opening.{beginnings_text, learned_text, opened_now}
 use Rattle.cv_runs.specs.Invariants.{point_of}
 use Rattle.cv_runs.specs.Learned.{learned}
@@ -21,7 +20,7 @@ open_case-requires-clause-points c =
     let before = observed k.plan k.journal in
     ap (all k.map) (c.as_slice.ensures ∙ c.in_ok-learned.ensures before c.requires.kept.learned)
     ∙ ap (λ (t : Picture). all t (learned k.summary.text before)) (c.requires.kept.text ∙ sym c.requires.kept.summary)
-    ∙ learned_points k.summary.text before c.requires.kept.learned.at_points
+    ∙ c.learned_are_at_points.ensures k.summary.text before c.requires.kept.learned.at_points
 
 pub returns-clause-opened : goal.returns-clause-opened
 returns-clause-opened c =
@@ -49,7 +48,7 @@ returns-clause-each c =
     let k = c.args.self.now in
     let before = observed k.plan k.journal in (
       record {
-        kinds = c.in_ok-case.ensures.kinds (ap (list_all is_invariant) (c.as_slice.ensures ∙ c.in_ok-learned.ensures before c.requires.kept.learned) ∙ learned_kinds k.summary.text before);
+        kinds = c.in_ok-case.ensures.kinds (ap (list_all is_invariant) (c.as_slice.ensures ∙ c.in_ok-learned.ensures before c.requires.kept.learned) ∙ c.learned_are_invariants.ensures k.summary.text before);
         points = ap (λ (t : Picture). list_all (λ (i : Invariant). is_point t (point_of i)) c.in_ok-case.case.candidates) (sym c.requires.kept.text) ∙ c.in_ok-case.ensures.points;
         few = rw c.in_ok-case.ensures.candidates (few_candidates (beginnings k.map) c.as_slice.result.now c.args.entry.now.sites);
       },

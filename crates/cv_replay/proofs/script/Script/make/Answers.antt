@@ -9,5 +9,5 @@ use Rattle.cv_replay.proofs.script.Script.make.Goals as goal
 pub returns-clause-goes_by : goal.returns-clause-goes_by
 returns-clause-goes_by c =
     let made = λ (e : Entry). let s : ScriptOf = record { entry = e; versions = map (λ t. t.value) c.args.tables.items } in s in
-    honest_script c.args.plan.now (map (λ t. t.value) c.args.tables.items) c.args.entry.now (made c.in_ok-entry.entry)
+    honest_script c.honest_is_flown.ensures c.args.plan.now (map (λ t. t.value) c.args.tables.items) c.args.entry.now (made c.in_ok-entry.entry)
     (subst (λ (p : PlanOf). 1 ≤ p.budget) c.plan.view_is c.plan.invariant.some_budget) c.requires.honest c.requires.rises (ap made c.in_ok-entry.ensures)

@@ -16,12 +16,14 @@ begin-requires-clause-plan c =
 
 pub begin-requires-clause-run : goal.begin-requires-clause-run
 begin-requires-clause-run c =
-    drawn_run c.self.inside.book c.self.inside.drawn c.self.inside.instances.items c.self.invariant c.args.self.now c.self.view_is c.in-Some.run' c.in-Some.ensures c.plan.result.now c.plan.ensures
+    drawn_run c.self.inside.book c.self.inside.drawn c.self.inside.instances.items c.self.invariant c.args.self.now c.self.view_is c.in-Some.run' c.in-Some.ensures
+    c.numbers_are_of_round.ensures c.runs_are_counted.ensures c.plan.result.now c.plan.ensures
 
 pub overflow_add-self : goal.overflow_add-self
 overflow_add-self c =
     let few : c.self.inside.drawn < 1024 =
-    few_drawn c.self.inside.book c.self.inside.drawn c.self.inside.instances.items c.self.invariant c.args.self.now c.self.view_is c.in-Some.run' c.in-Some.ensures in
+    few_drawn c.self.inside.book c.self.inside.drawn c.self.inside.instances.items c.self.invariant c.args.self.now c.self.view_is c.in-Some.run' c.in-Some.ensures
+    c.numbers_are_of_round.ensures c.runs_are_counted.ensures in
     omega arith
 
 -- the world after the beginning
@@ -32,7 +34,8 @@ begun c =
     let same : c.index.result.now ≡ c.index_mut.result.now = same_at xs c.len.result c.args.i _ _ count c.if-i-len.false c.index.ensures c.index_mut.ensures.value in
     begin_leaves c.self.inside.book c.self.inside.drawn xs c.self.invariant c.args.i c.index_mut.result.now
     (slice_get_read xs c.len.result c.args.i _ count c.if-i-len.false c.index_mut.ensures.value)
-    c.in-Some.run' (subst (λ (x : InstanceOf). is_some x.going ≡ false) same (sym c.if-has_run.ensures))
+    c.numbers_are_of_round.ensures c.runs_are_counted.ensures c.worlds_stand.ensures c.in-Some.run'
+    (subst (λ (x : InstanceOf). is_some x.going ≡ false) same (sym c.if-has_run.ensures))
     (draws c.self.inside.book c.self.inside.drawn xs c.self.invariant c.args.self.now c.self.view_is c.in-Some.run' c.in-Some.ensures)
     c.begin.new.self c.in_ok-begin.ensures.begun c.in_ok-begin.ensures.flight
 

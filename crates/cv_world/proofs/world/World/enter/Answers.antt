@@ -16,6 +16,7 @@ adopt-requires-clause-may c =
     let same : c.index.result.now ≡ c.index_mut.result.now = same_at xs c.len.result c.args.i _ _ count c.if-i-len.false c.index.ensures c.index_mut.ensures.value in
     enter_may c.self.inside.book c.self.inside.drawn xs c.self.invariant c.args.i c.index_mut.result.now
     (slice_get_read xs c.len.result c.args.i _ count c.if-i-len.false c.index_mut.ensures.value)
+    c.some_version.ensures c.newest_is_last.ensures
     (subst (λ (x : InstanceOf). wants x.plan x.going ≡ true) same (sym c.if-not-wants_entry.ensures))
     c.in_ok-version.version c.in_ok-version.table.value c.in_ok-version.ensures.number c.in_ok-version.ensures.table
 
@@ -27,6 +28,7 @@ stands c =
     let same : c.index.result.now ≡ c.index_mut.result.now = same_at xs c.len.result c.args.i _ _ count c.if-i-len.false c.index.ensures c.index_mut.ensures.value in
     enter_leaves c.self.inside.book c.self.inside.drawn xs c.self.invariant c.args.i c.index_mut.result.now
     (slice_get_read xs c.len.result c.args.i _ count c.if-i-len.false c.index_mut.ensures.value)
+    c.some_version.ensures c.newest_is_last.ensures c.worlds_stand.ensures
     (subst (λ (x : InstanceOf). wants x.plan x.going ≡ true) same (sym c.if-not-wants_entry.ensures))
     c.in_ok-version.version c.in_ok-version.table.value c.in_ok-version.ensures.number c.in_ok-version.ensures.table
     c.adopt.new.self c.in_ok-adopt.ensures.entered c.in_ok-adopt.ensures.flight

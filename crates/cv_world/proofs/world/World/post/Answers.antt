@@ -23,6 +23,7 @@ post-requires-clause-follows c =
     let same : c.index.result.now ≡ c.index_mut.result.now = same_at xs c.len.result c.args.i _ _ count c.if-i-len.false c.index.ensures c.index_mut.ensures.value in
     post_may c.self.inside.book c.self.inside.drawn xs c.self.invariant c.args.i c.index_mut.result.now
     (slice_get_read xs c.len.result c.args.i _ count c.if-i-len.false c.index_mut.ensures.value)
+    c.ended_may_follow.ensures
     (subst (λ (x : InstanceOf). is_over x.plan x.going ≡ true) same (sym c.if-not-ended.ensures))
 
 pub returns-then-i-len-clause-disabled : goal.returns-then-i-len-clause-disabled
@@ -44,7 +45,7 @@ anew c =
     let xs = c.self.inside.instances.items in
     let count : c.len.result ≡ length xs = c.len.ensures ∙ c.self.inside.instances.ok.0 in
     let same : c.index.result.now ≡ c.index_mut.result.now = same_at xs c.len.result c.args.i _ _ count c.if-i-len.false c.index.ensures c.index_mut.ensures.value in
-    posted_anew c.self.inside.book c.self.inside.drawn xs c.self.invariant c.args.i c.index_mut.result.now
+    posted_anew c.worlds_stand.ensures c.tables_stay.ensures c.self.inside.book c.self.inside.drawn xs c.self.invariant c.args.i c.index_mut.result.now
     (slice_get_read xs c.len.result c.args.i _ count c.if-i-len.false c.index_mut.ensures.value)
     (subst (λ (x : InstanceOf). is_over x.plan x.going ≡ true) same (sym c.if-not-ended.ensures))
     c.post.new.book c.in_ok-post.ensures.posted c.post.new.self c.in_ok-post.ensures.left c.round_of-before.result c.round_of.result c.round_of-before.ensures c.round_of.ensures (sym c.if-ne.ensures)
@@ -55,7 +56,7 @@ on c =
     let xs = c.self.inside.instances.items in
     let count : c.len.result ≡ length xs = c.len.ensures ∙ c.self.inside.instances.ok.0 in
     let same : c.index.result.now ≡ c.index_mut.result.now = same_at xs c.len.result c.args.i _ _ count c.if-i-len.false c.index.ensures c.index_mut.ensures.value in
-    posted_on c.self.inside.book c.self.inside.drawn xs c.self.invariant c.args.i c.index_mut.result.now
+    posted_on c.worlds_stand.ensures c.tables_stay.ensures c.self.inside.book c.self.inside.drawn xs c.self.invariant c.args.i c.index_mut.result.now
     (slice_get_read xs c.len.result c.args.i _ count c.if-i-len.false c.index_mut.ensures.value)
     (subst (λ (x : InstanceOf). is_over x.plan x.going ≡ true) same (sym c.if-not-ended.ensures))
     c.post.new.book c.in_ok-post.ensures.posted c.post.new.self c.in_ok-post.ensures.left c.round_of-before.result c.round_of.result c.round_of-before.ensures c.round_of.ensures (sym c.if-ne.ensures)

@@ -16,6 +16,7 @@ turned c =
     let same : c.index.result.now ≡ c.index_mut.result.now = same_at xs c.len.result c.args.i _ _ count c.if-i-len.false c.index.ensures c.index_mut.ensures.value in
     turn_leaves c.self.inside.book c.self.inside.drawn xs c.self.invariant c.args.i c.index_mut.result.now
     (slice_get_read xs c.len.result c.args.i _ count c.if-i-len.false c.index_mut.ensures.value)
+    c.worlds_stand.ensures
     (subst (λ (x : InstanceOf). may_turn_in x.plan x.going ≡ true) same (sym c.if-not-may_turn.ensures))
     c.turn.new.self c.in_ok-turn.ensures.turned c.in_ok-turn.ensures.flight
 

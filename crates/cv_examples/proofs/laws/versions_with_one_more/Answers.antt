@@ -1,5 +1,0 @@
-use Rattle.cv_histories.proofs.Laws.{versions_of-push}
-use Rattle.cv_examples.proofs.laws.versions_with_one_more.Goals as goal
-
-pub returns : goal.returns
-returns c = versions_of-push

@@ -1,0 +1,6 @@
+use Rattle.cv_laws.proofs.PlainSteps.{turn_first}
+use Rattle.cv_laws.proofs.turns.plain_turn_first.Goals as goal
+
+-- src/turns.rt
+pub returns : goal.returns
+returns c = turn_first

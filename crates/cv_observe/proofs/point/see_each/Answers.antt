@@ -1,9 +1,0 @@
-use Rattle.std.proofs.Common.{arith}
-use Rattle.cv_observe.specs.AtPoint.{Sees}
-use Rattle.cv_observe.proofs.EachPlace.{each_more}
-use Rattle.cv_observe.proofs.point.see_each.Goals as goal
-
-pub loop-x-preserved : goal.loop-x-preserved
-loop-x-preserved c =
-    each_more (λ x old new. Sees old new c.args.regs.now) c.args.list.now c.loop-x.x c.loop-x.list c.index-list-x.result c.see.new.self (omega arith) c.loop-x.invariant
-    (record { number = c.see.ensures.number; kept = c.see.ensures.kept })
